@@ -1,8 +1,13 @@
 pub mod Walks
 pub mod Weights
+pub mod Tests
+pub mod Signed
 pub mod Codes
 pub mod Rounds
 pub mod Zeros
 pub mod Relaxing
 pub mod RoundLaws
 pub mod Climbs
+pub mod Answers
+pub mod Lassos
+pub mod Trees

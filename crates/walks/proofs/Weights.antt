@@ -12,7 +12,7 @@ use Rattle.integers.proofs.Parts.{up, dn, ext, le-of, le-parts, add-parts}
 use Rattle.integers.proofs.Products.{abs-add, abs-mul, mul-sum, times-suc}
 use Rattle.walks.specs.Walk.{at, atℤ, Walk, Reached, Cycle}
 use Rattle.walks.specs.Weight.{weightOf, sum, total, NoneNegative, LeastWeight, Potential}
-use Rattle.walks.specs.Form.{Arc, Coefficients}
+use Rattle.walks.specs.Form.{Arc, InRange}
 use Rattle.walks.proofs.Walks.{walk-append}
 
 pub sum-append : (weight : ℕ → ℤ) (p c : List ℕ) → sum weight (p ++ c) ≡ sum weight p +ℤ sum weight c
@@ -59,7 +59,7 @@ module _ (a b c : ℤ) (cost : List ℤ) (reward : List ℕ) where
 mul-small : (x y : ℤ) (m n : ℕ) → natAbs x ≤ m → natAbs y ≤ n → natAbs (x *ℤ y) ≤ m * n
 mul-small x y m n h k = rw (abs-mul x y) (mul-le-mul h k)
 
-module _ (a b c x y : ℤ) (k : Coefficients a b c) (hx : natAbs x ≤ 10000) (hy : natAbs y ≤ 10000) where
+module _ (a b c x y : ℤ) (k : InRange a b c) (hx : natAbs x ≤ 10000) (hy : natAbs y ≤ 10000) where
   pub cost-part : natAbs (a *ℤ x) ≤ 204800000000
   cost-part = mul-small a x 20480000 10000 (k .a-small) hx
 

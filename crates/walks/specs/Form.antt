@@ -23,8 +23,8 @@ pub record Graph (F T : List ℕ) (cost : List ℤ) (reward : List ℕ) (n : ℕ
   pub rewards : length reward ≡ length F
   pub arc : (e : ℕ) → e < length F → Arc F T cost reward n e
 
--- the coefficients of cost, of reward and of the arc itself
-pub record Coefficients (a b c : ℤ) : Type 0 where
+-- the coefficients of the cost, of the reward and of the arc itself are in range
+pub record InRange (a b c : ℤ) : Type 0 where
   pub a-small : natAbs a ≤ 20480000
   pub b-small : natAbs b ≤ 20480001
   pub c-small : natAbs c ≤ 1

@@ -1,0 +1,20 @@
+use borrow.Author.Needs.{needs}
+use Rattle.graph.proofs.search.put.Statement.{statement}
+use Rattle.graph.proofs.search.put.Tie as tie
+use Rattle.graph.proofs.search.put.Reads as reads
+use Rattle.graph.proofs.search.put.Lts as lts
+
+mul-x : tie.Need-mul-x
+mul-x c = search needs
+
+slice-set-from-x : tie.Need-slice-set-from-x
+slice-set-from-x c = search needs
+
+same-length : tie.Need-same-length
+same-length c = search needs
+
+returns : tie.Need-returns
+returns c = ?
+
+pub put-spec : {M : Type 1} → statement M
+put-spec = tie.close (tie.spec mul-x slice-set-from-x same-length returns)
