@@ -2,15 +2,8 @@
 ghost use mathlib.Core.Path.{_≡_};
 ghost use Prim.Native.Nat.{_<_};
 ghost use lib.ListN.{length};
-ghost use Rattle.walks.specs.Walk.{at};
 ghost use Rattle.walks.proofs.Climbs.{View, Climbed};
-
-pub(crate) fn node(s: &[u16], e: usize) -> usize
-    requires { ⌜ e < length (now s) ⌝ }
-    ensures { λ r. ⌜ r ≡ at (now (s .entry)) e ⌝ }
-{
-    s[e] as usize
-}
+use crate::entries;
 
 // The places of a list from start up to end.
 pub(crate) struct Part {
@@ -36,7 +29,7 @@ pub(crate) fn climb(from: &[u16], parent: &[usize], order: &mut [usize], v: usiz
         mark[x] = top;
         top -= 1;
         order[top] = p - 1;
-        x = node(from, p - 1);
+        x = entries::entry(from, p - 1);
     }
     let end = mark[x];
     Part { start: top, end }

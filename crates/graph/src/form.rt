@@ -1,17 +1,16 @@
 // Whether the arguments are well formed.
 ghost use mathlib.Core.Path.{_≡_};
-ghost use Prim.Native.Nat.{ℕ, suc, _<_, _≤_};
+ghost use Prim.Native.Nat.{ℕ, _<_};
 ghost use lib.ListN.{length};
-ghost use lib.IntN.{pos, negsuc, natAbs};
-ghost use Rattle.walks.specs.Walk.{at};
+ghost use lib.Signed.{_≤ℤ_};
 ghost use Rattle.walks.specs.Form.{Arc, Graph, InRange};
 ghost use Rattle.walks.proofs.Tests.{Test};
 ghost use Rattle.graph.specs.Answer.{WellFormed};
 use crate::Coefficients;
-use crate::weight;
+use crate::entries;
 
 fn within(x: i64, low: i64, high: i64) -> bool
-    ensures { λ t. ⌜ ((k : ℕ) → low ≡ negsuc k → high ≡ pos (suc k) → Test (natAbs x ≤ suc k) t) ⌝ }
+    ensures { λ t. ⌜ Test ((low ≤ℤ x) × (x ≤ℤ high)) t ⌝ }
 {
     if x < low {
         return false;
@@ -34,27 +33,20 @@ fn in_range(k: Coefficients) -> bool
     within(c, -1, 1)
 }
 
-fn number(s: &[u16], e: usize) -> usize
-    requires { ⌜ e < length (now s) ⌝ }
-    ensures { λ r. ⌜ r ≡ at (now (s .entry)) e ⌝ }
-{
-    s[e] as usize
-}
-
 fn arc(from: &[u16], to: &[u16], cost: &[i16], reward: &[u16], nodes: usize, e: usize) -> bool
     requires { ⌜ e < length (now from) ⌝ ∗ ⌜ e < length (now to) ⌝ ∗ ⌜ e < length (now cost) ⌝ ∗ ⌜ e < length (now reward) ⌝ }
     ensures { λ t. ⌜ Test (Arc (now (from .entry)) (now (to .entry)) (now (cost .entry)) (now (reward .entry)) nodes e) t ⌝ }
 {
-    if nodes <= number(from, e) {
+    if nodes <= entries::entry(from, e) {
         return false;
     }
-    if nodes <= number(to, e) {
+    if nodes <= entries::entry(to, e) {
         return false;
     }
-    if 10000 < number(reward, e) {
+    if 10000 < entries::entry(reward, e) {
         return false;
     }
-    within(weight::price(cost, e), -10000, 10000)
+    within(entries::price(cost, e), -10000, 10000)
 }
 
 fn arcs(from: &[u16], to: &[u16], cost: &[i16], reward: &[u16], nodes: usize) -> bool

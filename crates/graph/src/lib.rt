@@ -5,9 +5,9 @@ ghost use Rattle.graph.specs.Answer.{Answered};
 
 mod climb;
 mod copy;
+mod entries;
 mod form;
 mod search;
-mod weight;
 
 pub struct Coefficients {
     pub a: i64,

@@ -15,7 +15,7 @@ ghost use Rattle.graph.specs.Answer.{CycleFound, PotentialsFound};
 use crate::Coefficients;
 use crate::climb;
 use crate::copy;
-use crate::weight;
+use crate::entries;
 
 fn add(x: i64, y: i64) -> i64
     requires { ⌜ start < code start x + deep ⌝ ∗ ⌜ code start x ≤ start + deep ⌝ ∗ ⌜ natAbs y ≤ most ⌝ }
@@ -84,12 +84,12 @@ fn relax(
     ensures { λ t. ⌜ Relaxed (now (from .entry)) (now (to .entry)) (coded (k .a) (k .b) (k .c) (now (cost .entry)) (now (reward .entry))) (length (now (from .entry)))
         (codes start (now (dist .entry))) (now (stamp .entry)) (codes start (now (dist .exit))) (now (parent .exit)) (now (stamp .exit)) b 2048 e t ⌝ }
 {
-    let u = climb::node(from, e);
+    let u = entries::entry(from, e);
     if stamp[u] + 131072 <= b + e {
         return false;
     }
-    let v = climb::node(to, e);
-    let x = beyond(dist, u, weight::weight(cost, reward, k, e));
+    let v = entries::entry(to, e);
+    let x = beyond(dist, u, entries::weight(cost, reward, k, e));
     if improves(dist, v, x) {
         put(dist, v, x);
         parent[v] = e + 1;
@@ -121,7 +121,7 @@ fn round(
     let mut e = 0;
     while e < from.len() {
         if relax(from, to, cost, reward, k, dist, parent, stamp, b, e) {
-            seen = climb::node(to, e);
+            seen = entries::entry(to, e);
             if low(dist, seen) {
                 return seen;
             }

@@ -1,6 +1,7 @@
 pub mod Walks
 pub mod Weights
 pub mod Tests
+pub mod Copies
 pub mod Signed
 pub mod Codes
 pub mod Rounds

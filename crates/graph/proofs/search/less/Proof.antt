@@ -1,10 +1,10 @@
+-- `graph::search::less` meets its contract.
+use Rattle.walks.proofs.Signed.{is-less}
 use Rattle.graph.proofs.search.less.Statement.{statement}
 use Rattle.graph.proofs.search.less.Tie as tie
-use Rattle.graph.proofs.search.less.Reads as reads
-use Rattle.graph.proofs.search.less.Lts as lts
 
 returns : tie.Need-returns
-returns c = ?
+returns c = is-less (c .args .x) (c .args .y) (c .fits .x) (c .fits .y) (c .pre)
 
 pub less-spec : {M : Type 1} → statement M
 less-spec = tie.close (tie.spec returns)

@@ -1,8 +1,9 @@
+-- `graph::search::put` meets its contract.
 use borrow.Author.Needs.{needs}
+use denote.Ref.{now}
+use Rattle.walks.proofs.Signed.{stored}
 use Rattle.graph.proofs.search.put.Statement.{statement}
 use Rattle.graph.proofs.search.put.Tie as tie
-use Rattle.graph.proofs.search.put.Reads as reads
-use Rattle.graph.proofs.search.put.Lts as lts
 
 mul-x : tie.Need-mul-x
 mul-x c = search needs
@@ -14,7 +15,7 @@ same-length : tie.Need-same-length
 same-length c = search needs
 
 returns : tie.Need-returns
-returns c = ?
+returns c = stored (now (c .args .dist)) (c .args .v) (c .args .x) (c .fits .x)
 
 pub put-spec : {M : Type 1} → statement M
 put-spec = tie.close (tie.spec mul-x slice-set-from-x same-length returns)

@@ -1,4 +1,4 @@
-// The weight of an arc.
+// Entries of the slices of arcs, and the weight of an arc.
 ghost use mathlib.Core.Path.{_≡_};
 ghost use Prim.Native.Nat.{_<_, _≤_};
 ghost use lib.ListN.{length};
@@ -23,6 +23,13 @@ fn mul(x: i64, y: i64) -> i64
     ensures { λ r. ⌜ r ≡ x *ℤ y ⌝ }
 {
     x * y
+}
+
+pub(crate) fn entry(s: &[u16], e: usize) -> usize
+    requires { ⌜ e < length (now s) ⌝ }
+    ensures { λ r. ⌜ r ≡ at (now (s .entry)) e ⌝ }
+{
+    s[e] as usize
 }
 
 pub(crate) fn price(s: &[i16], e: usize) -> i64
