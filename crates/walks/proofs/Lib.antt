@@ -9,6 +9,7 @@ pub mod Zeros
 pub mod Relaxing
 pub mod RoundLaws
 pub mod Climbs
+pub mod ClimbTurns
 pub mod Answers
 pub mod Lassos
 pub mod Trees
