@@ -25,6 +25,10 @@ use Rattle.walks.proofs.Climbs.{Negative}
 unfoldable pub coded : ℤ → ℤ → ℤ → List ℤ → List ℕ → ℕ → ℕ
 coded a b c cost reward e = code bias (weightOf a b c cost reward e)
 
+pub coded-is : (a b c : ℤ) (cost : List ℤ) (reward : List ℕ) (e : ℕ) (z : ℤ) → z ≡ weightOf a b c cost reward e → code bias z ≡ coded a b c cost reward e
+unfolding coded
+coded-is a b c cost reward e z p = ap (code bias) p
+
 module _ (F T : List ℕ) (cost : List ℤ) (reward : List ℕ) (a b c : ℤ) (n : ℕ) (g : Graph F T cost reward n) (k : InRange a b c) where
   abbrev weight : ℕ → ℤ
   weight = weightOf a b c cost reward
@@ -35,7 +39,7 @@ module _ (F T : List ℕ) (cost : List ℤ) (reward : List ℕ) (a b c : ℤ) (n
   abbrev m : ℕ
   m = length F
 
-  small : (e : ℕ) → e < m → natAbs (weight e) ≤ most
+  pub small : (e : ℕ) → e < m → natAbs (weight e) ≤ most
   small e h = all-parts a b c (atℤ cost e) (pos (at reward e)) k (g .arc e h .cost-small) (g .arc e h .reward-small)
 
   pub parts : (e : ℕ) → e < m → Parts (weight e) (W e) bias
