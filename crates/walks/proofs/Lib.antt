@@ -11,6 +11,7 @@ pub mod RelaxTurns
 pub mod RoundLaws
 pub mod Climbs
 pub mod ClimbTurns
+pub mod RoundTurns
 pub mod Answers
 pub mod Lassos
 pub mod Trees
