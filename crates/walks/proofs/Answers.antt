@@ -21,6 +21,23 @@ use Rattle.walks.proofs.Rounds.{bias, start, inf, most, deep, Arcs, Att
 use Rattle.walks.proofs.RoundLaws.{least}
 use Rattle.walks.proofs.Climbs.{Negative}
 
+-- a graph of n nodes is one of 2048
+pub widen : (F T : List ℕ) (cost : List ℤ) (reward : List ℕ) (n : ℕ) → Graph F T cost reward n → Graph F T cost reward 2048
+widen F T cost reward n g = record {
+  some = omega arith;
+  nodes = omega arith;
+  arcs = g .arcs;
+  tos = g .tos;
+  costs = g .costs;
+  rewards = g .rewards;
+  arc = λ e h. record {
+    source = lt-of-lt-of-le (g .arc e h .source) (g .nodes);
+    target = lt-of-lt-of-le (g .arc e h .target) (g .nodes);
+    cost-small = g .arc e h .cost-small;
+    reward-small = g .arc e h .reward-small;
+  };
+}
+
 -- the weights of the arcs, in codes
 unfoldable pub coded : ℤ → ℤ → ℤ → List ℤ → List ℕ → ℕ → ℕ
 coded a b c cost reward e = code bias (weightOf a b c cost reward e)
