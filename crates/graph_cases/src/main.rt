@@ -246,161 +246,65 @@ fn coefficients() {
     );
 }
 
-// Loops at the start, with slices of unlike lengths.
-fn lengths() {
-    let mut potential = [7i64; 5];
-    let mut cycle = [7usize; 5];
-    let k = Coefficients { a: 1, b: 0, c: 0 };
-    lent(
-        b"fewer sources",
-        &[0],
-        &[0, 0],
-        &[1, 1],
-        &[0, 0],
-        k,
-        1,
-        &mut potential,
-        &mut cycle,
-    );
-    lent(
-        b"fewer targets",
-        &[0, 0],
-        &[0],
-        &[1, 1],
-        &[0, 0],
-        k,
-        1,
-        &mut potential,
-        &mut cycle,
-    );
-    lent(
-        b"fewer costs",
-        &[0, 0],
-        &[0, 0],
-        &[1],
-        &[0, 0],
-        k,
-        1,
-        &mut potential,
-        &mut cycle,
-    );
-    lent(
-        b"fewer rewards",
-        &[0, 0],
-        &[0, 0],
-        &[1, 1],
-        &[0],
-        k,
-        1,
-        &mut potential,
-        &mut cycle,
-    );
-}
-
-// The number of nodes at its limit and beyond it, and buffers that are too short.
-fn nodes_most() {
-    let mut potential = [7i64; 2048];
-    let mut cycle = [7usize; 2048];
-    lent(
-        b"2048 nodes",
-        &[0],
-        &[1],
-        &[3],
-        &[0],
-        Coefficients { a: 1, b: 0, c: 0 },
-        2048,
-        &mut potential,
-        &mut cycle,
-    );
-}
-
-fn nodes_more() {
-    let mut potential = [7i64; 2049];
-    let mut cycle = [7usize; 2049];
-    lent(
-        b"2049 nodes",
-        &[0],
-        &[1],
-        &[3],
-        &[0],
-        Coefficients { a: 1, b: 0, c: 0 },
-        2049,
-        &mut potential,
-        &mut cycle,
-    );
-}
-
-fn potential_short() {
-    let mut potential = [7i64; 4];
-    let mut cycle = [7usize; 5];
-    lent(
-        b"too few potentials",
-        &[0],
-        &[1],
-        &[3],
-        &[0],
-        Coefficients { a: 1, b: 0, c: 0 },
-        5,
-        &mut potential,
-        &mut cycle,
-    );
-}
-
-fn cycle_short() {
-    let mut potential = [7i64; 5];
-    let mut cycle = [7usize; 4];
-    lent(
-        b"room for too few arcs",
-        &[0],
-        &[1],
-        &[3],
-        &[0],
-        Coefficients { a: 1, b: 0, c: 0 },
-        5,
-        &mut potential,
-        &mut cycle,
-    );
-}
-
-// The number of arcs at its limit and beyond it: loops of weight 0.
-fn arcs_most() {
-    let from = [0u16; 69632];
-    let to = [0u16; 69632];
-    let cost = [0i16; 69632];
-    let reward = [0u16; 69632];
-    let mut potential = [7i64; 1];
-    let mut cycle = [7usize; 1];
-    lent(
-        b"69632 arcs",
-        &from,
-        &to,
-        &cost,
-        &reward,
-        Coefficients { a: 1, b: 0, c: 0 },
-        1,
-        &mut potential,
-        &mut cycle,
-    );
-}
-
-fn arcs_more() {
+// Loops of weight 0 at the start, as many as each slice has entries, and buffers of the given lengths.
+fn sized(
+    name: &[u8],
+    nodes: usize,
+    f: usize,
+    t: usize,
+    c: usize,
+    r: usize,
+    potentials: usize,
+    arcs: usize,
+) {
     let from = [0u16; 69633];
     let to = [0u16; 69633];
     let cost = [0i16; 69633];
     let reward = [0u16; 69633];
-    let mut potential = [7i64; 1];
-    let mut cycle = [7usize; 1];
+    let mut potential = [7i64; 2049];
+    let mut cycle = [7usize; 2049];
+    if 69633 < f {
+        return;
+    }
+    if 69633 < t {
+        return;
+    }
+    if 69633 < c {
+        return;
+    }
+    if 69633 < r {
+        return;
+    }
+    if 2049 < potentials {
+        return;
+    }
+    if 2049 < arcs {
+        return;
+    }
     lent(
-        b"69633 arcs",
-        &from,
-        &to,
-        &cost,
-        &reward,
+        name,
+        &from[..f],
+        &to[..t],
+        &cost[..c],
+        &reward[..r],
         Coefficients { a: 1, b: 0, c: 0 },
-        1,
-        &mut potential,
-        &mut cycle,
+        nodes,
+        &mut potential[..potentials],
+        &mut cycle[..arcs],
     );
+}
+
+fn lengths() {
+    sized(b"fewer sources", 1, 1, 2, 2, 2, 5, 5);
+    sized(b"fewer targets", 1, 2, 1, 2, 2, 5, 5);
+    sized(b"fewer costs", 1, 2, 2, 1, 2, 5, 5);
+    sized(b"fewer rewards", 1, 2, 2, 2, 1, 5, 5);
+    sized(b"too few potentials", 5, 1, 1, 1, 1, 4, 5);
+    sized(b"room for too few arcs", 5, 1, 1, 1, 1, 5, 4);
+    sized(b"2048 nodes", 2048, 1, 1, 1, 1, 2048, 2048);
+    sized(b"2049 nodes", 2049, 1, 1, 1, 1, 2049, 2049);
+    sized(b"69632 arcs", 1, 69632, 69632, 69632, 69632, 1, 1);
+    sized(b"69633 arcs", 1, 69633, 69633, 69633, 69633, 1, 1);
 }
 
 fn main() {
@@ -410,10 +314,4 @@ fn main() {
     ranges();
     coefficients();
     lengths();
-    nodes_most();
-    nodes_more();
-    potential_short();
-    cycle_short();
-    arcs_most();
-    arcs_more();
 }
