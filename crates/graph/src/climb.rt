@@ -26,8 +26,8 @@ pub(crate) fn climb(from: &[u16], parent: &[usize], order: &mut [usize], v: usiz
         if p == 0 {
             return Part { start: 0, end: 0 };
         }
-        mark[x] = top;
         top -= 1;
+        mark[x] = top + 1;
         order[top] = p - 1;
         x = entries::entry(from, p - 1);
     }

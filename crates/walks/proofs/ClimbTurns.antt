@@ -3,6 +3,7 @@ use mathlib.Core.Path.{_≡_, sym}
 use mathlib.Core.List.{List}
 use Prim.Native.Nat.{ℕ, zero, suc, _+_, _-_, _*_, _≤_, _<_}
 use native.Mathlib.Omega.{arith}
+use native.Mathlib.Numerals.{add-one}
 use lib.ListN.{length, set, replicate}
 use Rattle.walks.specs.Walk.{at}
 use Rattle.walks.proofs.Rounds.{start, most, turn}
@@ -27,13 +28,13 @@ module _ (mark order : List ℕ) (n x top : ℕ) (o : Marks mark order n x top) 
 -- one arc further
 pub climb-again : (F par mark order : List ℕ) (n v x top y : ℕ) → View F par n → Marks mark order n x top → Climbs F par mark order n v x top
     → at mark x ≡ 0 → (at par x ≡ 0 → ⊥) → y ≡ at F (at par x - 1)
-    → Marks (set mark x top) (set order (top - 1) (at par x - 1)) n y (top - 1)
-    × Climbs F par (set mark x top) (set order (top - 1) (at par x - 1)) n v y (top - 1)
+    → Marks (set mark x (top - 1 + 1)) (set order (top - 1) (at par x - 1)) n y (top - 1)
+    × Climbs F par (set mark x (top - 1 + 1)) (set order (top - 1) (at par x - 1)) n v y (top - 1)
 climb-again F par mark order n v x zero y g o k z q p = absurd (omega (arith, top-some mark order n x zero o z))
 climb-again F par mark order n v x (suc a) y g o k z q p =
     let s : suc a - 1 ≡ a = omega arith in
     let e : at par x ≡ at par x - 1 + 1 = omega arith in
-    rw (p, s) (
+    rw (p, s, add-one a) (
       climb-marks F (g .T) (g .W) (g .m) (g .D) (g .st) mark order n v x a (at par x - 1) o (k g) z
           (g .hangs x (o .here) (at par x - 1) e) (g .stamp x (o .here)) (g .heavy (at par x - 1) (g .hangs x (o .here) (at par x - 1) e .arc))
           (arc-of mark order n x (suc a) o F par g q .1),

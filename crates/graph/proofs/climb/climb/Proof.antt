@@ -51,14 +51,17 @@ same-length c = omega (arith, here (c .before .before .before), S (c .before .be
 returns : tie.Need-returns Inv-loop μ-loop
 returns c = let l = c .before .before .before in λ g. climb-rooted _ _ _ _ _ _ _ _ (l .loop .inv .0) (l .loop .inv .1) g (c .before .before .loop-test .taken) (c .if1 .taken) 0
 
+sub-top : tie.Need-sub-top Inv-loop μ-loop
+sub-top c = some (c .before .before)
+
+add-mark : tie.Need-add-mark Inv-loop μ-loop
+add-mark c = omega (arith, top (c .before .before .before))
+
 mul-mark : tie.Need-mul-mark Inv-loop μ-loop
 mul-mark c = omega (arith, here (c .before .before .before))
 
 array-write-mark : tie.Need-array-write-mark Inv-loop μ-loop
 array-write-mark c = here (c .before .before .before) .0
-
-sub-top : tie.Need-sub-top Inv-loop μ-loop
-sub-top c = some (c .before .before)
 
 sub-order : tie.Need-sub-order Inv-loop μ-loop
 sub-order c = omega arith
@@ -98,5 +101,5 @@ pub climb-spec : {M : Type 1} → statement M
 climb-spec =
     tie.close
     (tie.spec
-    Inv-loop μ-loop loop-holds mul-loop array-read-loop mul-p shared-slice-read-p same-length returns mul-mark array-write-mark sub-top
+    Inv-loop μ-loop loop-holds mul-loop array-read-loop mul-p shared-slice-read-p same-length returns sub-top add-mark mul-mark array-write-mark
     sub-order mul-order slice-write-order sub-entry entry-requires loop-less loop-again mul-end array-read-end same-length-2 returns-2)
