@@ -12,10 +12,11 @@ use Rattle.walks.specs.Form.{Graph, InRange}
 use Rattle.walks.proofs.Codes.{codes}
 use Rattle.walks.proofs.Rounds.{start, Least}
 use Rattle.walks.proofs.Climbs.{Negative}
-use Rattle.walks.proofs.Answers.{coded, negative, short, potential, none-below}
+use Rattle.walks.proofs.Coded.{coded}
+use Rattle.walks.proofs.Answers.{negative, short, potential, none-below}
 use Rattle.graph.specs.Answer.{CycleFound, PotentialsFound}
 
-module _ (F T : List ℕ) (cost : List ℤ) (reward : List ℕ) (a b c : ℤ) (n : ℕ) (g : Graph F T cost reward n) (k : InRange a b c) where
+module _ {F T : List ℕ} {cost : List ℤ} {reward : List ℕ} {a b c : ℤ} {n : ℕ} (g : Graph F T cost reward n) (k : InRange a b c) where
   abbrev weight : ℕ → ℤ
   weight = weightOf a b c cost reward
 
@@ -23,11 +24,11 @@ module _ (F T : List ℕ) (cost : List ℤ) (reward : List ℕ) (a b c : ℤ) (n
   W = coded a b c cost reward
 
   -- the potentials are copied from d
-  pub potentials-found : (p p' : List ℤ) (q q' : List ℕ) (d : List ℤ) → length d ≡ 2048 → Least F T W (length F) (codes start d) 2048
+  pub potentials-found : {p p' : List ℤ} {q q' : List ℕ} (d : List ℤ) → length d ≡ 2048 → Least F T W (length F) (codes start d) 2048
       → p' ≡ take n d ++ drop n p → q' ≡ q → PotentialsFound F T weight n p p' q q'
-  potentials-found p p' q q' d l o e f = record {
-    potentials = λ v h. subst (Potential F T (length F) weight v) (sym (entry v h)) (potential F T cost reward a b c n g k d l o v (omega (arith, g .nodes)));
-    none = none-below F T cost reward a b c n g k d l o;
+  potentials-found {p} {p'} d l o e f = record {
+    potentials = λ v h. subst (Potential F T (length F) weight v) (sym (entry v h)) (potential g k d l o v (omega (arith, g .nodes)));
+    none = none-below g k d l o;
     rest = ap (drop n) e ∙ drop-at (take n d) (drop n p) n long;
     kept = f;
   }
@@ -44,13 +45,13 @@ module _ (F T : List ℕ) (cost : List ℤ) (reward : List ℕ) (a b c : ℤ) (n
     part = length-slice i j order (omega arith)
 
     pub few : j - i ≤ n
-    few = omega (arith, short F T cost reward a b c n g k (slice i j order) o, part)
+    few = omega (arith, short g k (slice i j order) o, part)
 
-    pub cycle-found : (p p' : List ℤ) (q q' : List ℕ) → i < j → p' ≡ p → q' ≡ slice i (i + (j - i)) order ++ drop (j - i) q
+    pub cycle-found : {p p' : List ℤ} {q q' : List ℕ} → i < j → p' ≡ p → q' ≡ slice i (i + (j - i)) order ++ drop (j - i) q
         → CycleFound F T weight n (j - i) p p' q q'
-    cycle-found p p' q q' lt f e = record {
+    cycle-found {q = q} {q'} lt f e = record {
       short = few;
-      negative = rw front (negative F T cost reward a b c n g k (slice i j order) o);
+      negative = rw front (negative g k (slice i j order) o);
       rest = ap (drop (j - i)) written ∙ drop-at (slice i j order) (drop (j - i) q) (j - i) part;
       kept = f;
     }

@@ -50,8 +50,10 @@ fn arc(from: &[u16], to: &[u16], cost: &[i16], reward: &[u16], nodes: usize, e: 
 }
 
 fn arcs(from: &[u16], to: &[u16], cost: &[i16], reward: &[u16], nodes: usize) -> bool
-    requires { ⌜ length (now to) ≡ length (now from) ⌝ ∗ ⌜ length (now cost) ≡ length (now from) ⌝ ∗ ⌜ length (now reward) ≡ length (now from) ⌝ }
-    ensures { λ t. ⌜ Test ((e : ℕ) → e < length (now (from .entry)) → Arc (now (from .entry)) (now (to .entry)) (now (cost .entry)) (now (reward .entry)) nodes e) t ⌝ }
+    requires { ⌜ length (now to) ≡ length (now from) ⌝ }
+    requires { ⌜ length (now cost) ≡ length (now from) ⌝ ∗ ⌜ length (now reward) ≡ length (now from) ⌝ }
+    ensures { λ t. ⌜ Test ((e : ℕ) → e < length (now (from .entry))
+        → Arc (now (from .entry)) (now (to .entry)) (now (cost .entry)) (now (reward .entry)) nodes e) t ⌝ }
 {
     let mut e = 0;
     while e < from.len() {
@@ -98,7 +100,8 @@ pub(crate) fn well_formed(
     potentials: usize,
     arcs: usize,
 ) -> bool
-    ensures { λ t. ⌜ Test (WellFormed (now (from .entry)) (now (to .entry)) (now (cost .entry)) (now (reward .entry)) (k .a) (k .b) (k .c) nodes potentials arcs) t ⌝ }
+    ensures { λ t. ⌜ Test (WellFormed (now (from .entry)) (now (to .entry)) (now (cost .entry)) (now (reward .entry))
+        (k .a) (k .b) (k .c) nodes potentials arcs) t ⌝ }
 {
     if potentials < nodes {
         return false;

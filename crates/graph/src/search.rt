@@ -9,8 +9,8 @@ ghost use Rattle.walks.specs.Weight.{weightOf};
 ghost use Rattle.walks.specs.Form.{Graph, InRange};
 ghost use Rattle.walks.proofs.Codes.{code, codes};
 ghost use Rattle.walks.proofs.Signed.{Sum, Less, Low};
-ghost use Rattle.walks.proofs.Rounds.{bias, start, most, deep, State, Fine, Relaxed, Ended};
-ghost use Rattle.walks.proofs.Answers.{coded};
+ghost use Rattle.walks.proofs.Rounds.{bias, start, most, deep, Relaxed, Ended};
+ghost use Rattle.walks.proofs.Coded.{coded, Running};
 ghost use Rattle.graph.specs.Answer.{CycleFound, PotentialsFound};
 use crate::Coefficients;
 use crate::climb;
@@ -26,7 +26,8 @@ fn add(x: i64, y: i64) -> i64
 
 // The potential of u and a weight.
 fn beyond(dist: &[i64], u: usize, w: i64) -> i64
-    requires { ⌜ u < length (now dist) ⌝ ∗ ⌜ start < at (codes start (now dist)) u + deep ⌝ ∗ ⌜ at (codes start (now dist)) u ≤ start + deep ⌝ ∗ ⌜ natAbs w ≤ most ⌝ }
+    requires { ⌜ u < length (now dist) ⌝ ∗ ⌜ natAbs w ≤ most ⌝ }
+    requires { ⌜ start < at (codes start (now dist)) u + deep ⌝ ∗ ⌜ at (codes start (now dist)) u ≤ start + deep ⌝ }
     ensures { λ r. ⌜ Sum (at (codes start (now (dist .entry))) u) (code bias w) r ⌝ }
 {
     let x = dist[u];
@@ -78,11 +79,11 @@ fn relax(
     b: usize,
     e: usize,
 ) -> bool
-    requires { ⌜ Graph (now from) (now to) (now cost) (now reward) 2048 ⌝ ∗ ⌜ InRange (k .a) (k .b) (k .c) ⌝ ∗ ⌜ e < length (now from) ⌝ }
-    requires { ⌜ State (now from) (now to) (coded (k .a) (k .b) (k .c) (now cost) (now reward)) (length (now from))
-        (codes start (now dist)) (now parent) (now stamp) b e 2048 ⌝ ∗ ⌜ Fine (codes start (now dist)) 2048 ⌝ }
-    ensures { λ t. ⌜ Relaxed (now (from .entry)) (now (to .entry)) (coded (k .a) (k .b) (k .c) (now (cost .entry)) (now (reward .entry))) (length (now (from .entry)))
-        (codes start (now (dist .entry))) (now (stamp .entry)) (codes start (now (dist .exit))) (now (parent .exit)) (now (stamp .exit)) b 2048 e t ⌝ }
+    requires { ⌜ Running (now from) (now to) (now cost) (now reward) (k .a) (k .b) (k .c) (now dist) (now parent) (now stamp) b e ⌝ }
+    requires { ⌜ e < length (now from) ⌝ }
+    ensures { λ t. ⌜ Relaxed (now (from .entry)) (now (to .entry)) (coded (k .a) (k .b) (k .c) (now (cost .entry)) (now (reward .entry)))
+        (length (now (from .entry))) (codes start (now (dist .entry))) (now (stamp .entry))
+        (codes start (now (dist .exit))) (now (parent .exit)) (now (stamp .exit)) b 2048 e t ⌝ }
 {
     let u = entries::entry(from, e);
     if stamp[u] + 131072 <= b + e {
@@ -111,11 +112,9 @@ fn round(
     stamp: &mut [usize],
     b: usize,
 ) -> usize
-    requires { ⌜ Graph (now from) (now to) (now cost) (now reward) 2048 ⌝ ∗ ⌜ InRange (k .a) (k .b) (k .c) ⌝ }
-    requires { ⌜ State (now from) (now to) (coded (k .a) (k .b) (k .c) (now cost) (now reward)) (length (now from))
-        (codes start (now dist)) (now parent) (now stamp) b 0 2048 ⌝ ∗ ⌜ Fine (codes start (now dist)) 2048 ⌝ }
-    ensures { λ v. ⌜ Ended (now (from .entry)) (now (to .entry)) (coded (k .a) (k .b) (k .c) (now (cost .entry)) (now (reward .entry))) (length (now (from .entry)))
-        (codes start (now (dist .exit))) (now (parent .exit)) (now (stamp .exit)) b 2048 v ⌝ }
+    requires { ⌜ Running (now from) (now to) (now cost) (now reward) (k .a) (k .b) (k .c) (now dist) (now parent) (now stamp) b 0 ⌝ }
+    ensures { λ v. ⌜ Ended (now (from .entry)) (now (to .entry)) (coded (k .a) (k .b) (k .c) (now (cost .entry)) (now (reward .entry)))
+        (length (now (from .entry))) (codes start (now (dist .exit))) (now (parent .exit)) (now (stamp .exit)) b 2048 v ⌝ }
 {
     let mut seen = 2048;
     let mut e = 0;
@@ -144,9 +143,11 @@ pub(crate) fn search(
 ) -> usize
     requires { ⌜ Graph (now from) (now to) (now cost) (now reward) nodes ⌝ ∗ ⌜ InRange (k .a) (k .b) (k .c) ⌝ }
     requires { ⌜ nodes ≤ length (now potential) ⌝ ∗ ⌜ nodes ≤ length (now cycle) ⌝ }
-    ensures cycle { λ r. ⌜ (0 < r → CycleFound (now (from .entry)) (now (to .entry)) (weightOf (k .a) (k .b) (k .c) (now (cost .entry)) (now (reward .entry))) nodes r
+    ensures cycle { λ r. ⌜ (0 < r → CycleFound (now (from .entry)) (now (to .entry))
+        (weightOf (k .a) (k .b) (k .c) (now (cost .entry)) (now (reward .entry))) nodes r
         (now (potential .entry)) (now (potential .exit)) (now (cycle .entry)) (now (cycle .exit))) ⌝ }
-    ensures potentials { λ (r : ℕ). ⌜ (r ≡ 0 → PotentialsFound (now (from .entry)) (now (to .entry)) (weightOf (k .a) (k .b) (k .c) (now (cost .entry)) (now (reward .entry))) nodes
+    ensures potentials { λ (r : ℕ). ⌜ (r ≡ 0 → PotentialsFound (now (from .entry)) (now (to .entry))
+        (weightOf (k .a) (k .b) (k .c) (now (cost .entry)) (now (reward .entry))) nodes
         (now (potential .entry)) (now (potential .exit)) (now (cycle .entry)) (now (cycle .exit))) ⌝ }
 {
     let mut dist = [1152921504606846976i64; 2048];

@@ -14,30 +14,30 @@ use Rattle.walks.proofs.Climbs.{View, Climbing, Marks, Climbed, climb-m
 abbrev pub Climbs : List ℕ → List ℕ → List ℕ → List ℕ → ℕ → ℕ → ℕ → ℕ → Type 0
 Climbs F par mark order n v x top = (g : View F par n) → Climbing F (g .T) (g .W) (g .m) (g .D) (g .st) mark order n v x top
 
-module _ (mark order : List ℕ) (n x top : ℕ) (o : Marks mark order n x top) where
+module _ {mark order : List ℕ} {n x top : ℕ} (o : Marks mark order n x top) where
   pub top-some : at mark x ≡ 0 → 1 ≤ top
   top-some z = omega (arith, o .count, zeros-set mark x 0 (omega (arith, o .here, o .mark-len)) z)
 
   pub top-most : top ≤ n
   top-most = omega (arith, o .count, zeros-le mark, o .mark-len)
 
-  pub arc-of : (F par : List ℕ) → View F par n → (at par x ≡ 0 → ⊥) → (at par x - 1 < length F) × (at F (at par x - 1) < n)
-  arc-of F par g q = let k : at par x - 1 < g .m = g .hangs x (o .here) (at par x - 1) (omega arith) .arc in
+  pub arc-of : {F par : List ℕ} → View F par n → (at par x ≡ 0 → ⊥) → (at par x - 1 < length F) × (at F (at par x - 1) < n)
+  arc-of {par = par} g q = let k : at par x - 1 < g .m = g .hangs x (o .here) (at par x - 1) (omega arith) .arc in
       omega (arith, g .froms, g .source (at par x - 1) k)
 
 -- one arc further
-pub climb-again : (F par mark order : List ℕ) (n v x top y : ℕ) → View F par n → Marks mark order n x top → Climbs F par mark order n v x top
+pub climb-again : {F par mark order : List ℕ} {n v x top y : ℕ} → View F par n → Marks mark order n x top → Climbs F par mark order n v x top
     → at mark x ≡ 0 → (at par x ≡ 0 → ⊥) → y ≡ at F (at par x - 1)
     → Marks (set mark x (top - 1 + 1)) (set order (top - 1) (at par x - 1)) n y (top - 1)
     × Climbs F par (set mark x (top - 1 + 1)) (set order (top - 1) (at par x - 1)) n v y (top - 1)
-climb-again F par mark order n v x zero y g o k z q p = absurd (omega (arith, top-some mark order n x zero o z))
-climb-again F par mark order n v x (suc a) y g o k z q p =
+climb-again {top = zero} g o k z q p = absurd (omega (arith, top-some o z))
+climb-again {F} {par} {mark} {order} {n} {v} {x} {top = suc a} g o k z q p =
     let s : suc a - 1 ≡ a = omega arith in
     let e : at par x ≡ at par x - 1 + 1 = omega arith in
     rw (p, s, add-one a) (
       climb-marks F (g .T) (g .W) (g .m) (g .D) (g .st) mark order n v x a (at par x - 1) o (k g) z
           (g .hangs x (o .here) (at par x - 1) e) (g .stamp x (o .here)) (g .heavy (at par x - 1) (g .hangs x (o .here) (at par x - 1) e .arc))
-          (arc-of mark order n x (suc a) o F par g q .1),
+          (arc-of o g q .1),
       λ g. climb-more F (g .T) (g .W) (g .m) (g .D) (g .st) mark order n v x a (at par x - 1) o (k g) z
           (g .hangs x (o .here) (at par x - 1) e) (g .stamp x (o .here)) (g .heavy (at par x - 1) (g .hangs x (o .here) (at par x - 1) e .arc)),
     )
@@ -49,13 +49,13 @@ climb-begun F par mark order n v h p l = rw p (
   λ g. climb-none F (g .T) (g .W) (g .m) (g .D) (g .st) order n v h l .1,
 )
 
-module _ (F par mark order : List ℕ) (n v x top : ℕ) (o : Marks mark order n x top) (k : Climbs F par mark order n v x top) (g : View F par n) where
+module _ {F par mark order : List ℕ} {n v x top : ℕ} (o : Marks mark order n x top) (k : Climbs F par mark order n v x top) (g : View F par n) where
   -- at a node without a parent
   pub climb-rooted : at mark x ≡ 0 → at par x ≡ 0 → (a : ℕ) → Climbed F (g .T) (g .W) (g .m) (g .D) (g .st) order n v a a
   climb-rooted z p a = record {
     order-len = o .order-len;
     cycle = λ h. absurd (omega arith);
-    root = λ _. omega (arith, k g .near, k g .low, g .root x (o .here) p, top-some mark order n x top o z);
+    root = λ _. omega (arith, k g .near, k g .low, g .root x (o .here) p, top-some o z);
   }
 
   -- back at a marked node

@@ -7,11 +7,12 @@ pub mod Codes
 pub mod Rounds
 pub mod Zeros
 pub mod Relaxing
-pub mod RelaxTurns
 pub mod RoundLaws
 pub mod Climbs
 pub mod ClimbTurns
-pub mod RoundTurns
+pub mod Coded
 pub mod Answers
+pub mod RelaxTurns
+pub mod RoundTurns
 pub mod Lassos
 pub mod Trees

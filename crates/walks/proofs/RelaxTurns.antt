@@ -1,5 +1,5 @@
 -- Relaxing one arc as the code does it, over plain lists: u and v are its source and target, d the signed potentials.
-use mathlib.Core.Path.{_≡_, ap, _∙_}
+use mathlib.Core.Path.{_≡_, ap}
 use mathlib.Core.List.{List}
 use mathlib.Core.Bool.{Bool, true, false}
 use Prim.Native.Nat.{ℕ, _+_, _≤_, _<_}
@@ -15,44 +15,56 @@ use Rattle.walks.proofs.Codes.{code, codes, length-codes}
 use Rattle.walks.proofs.Signed.{Sum, Less}
 use Rattle.walks.proofs.Rounds.{bias, start, deep, turn, Arcs, State, Fine, Relaxed}
 use Rattle.walks.proofs.Relaxing.{sum-high, relax-same, relax-still, relax-changed}
+use Rattle.walks.proofs.Coded.{coded, arcs, Running}
 
-module _ (F T : List ℕ) (W : ℕ → ℕ) (d : List ℤ) (par st : List ℕ) (b e u v n : ℕ) (g : Arcs F T W (length F) n)
-    (s : State F T W (length F) (codes start d) par st b e n) (f : Fine (codes start d) n) (he : e < length F) (pu : u ≡ at F e) where
+module _ {F T : List ℕ} {cost : List ℤ} {reward : List ℕ} {a b c : ℤ} {d : List ℤ} {par st : List ℕ} {begin e u : ℕ}
+    (r : Running F T cost reward a b c d par st begin e) (he : e < length F) (pu : u ≡ at F e) where
+  abbrev W : ℕ → ℕ
+  W = coded a b c cost reward
+
   abbrev D : List ℕ
   D = codes start d
 
+  abbrev g : Arcs F T W (length F) 2048
+  g = arcs (r .graph) (r .in-range)
+
   pub source : (u < length par) × (u < length st) × (u < length d)
-  source = omega (arith, g .source e he, s .par-len, s .st-len, s .dist-len, length-codes start d)
+  source = omega (arith, g .source e he, r .state .par-len, r .state .st-len, r .state .dist-len, length-codes start d)
 
   pub stamp : at st u + turn < 18446744073709551616
-  stamp = omega (arith, s .stamp u (omega (arith, g .source e he)), s .rounds, g .small, s .within, g .few)
+  stamp = omega (arith, r .state .stamp u (omega (arith, g .source e he)), r .state .rounds, r .state .within, g .few)
 
-  pub still : at st u + turn ≤ b + e → Relaxed F T W (length F) D st D par st b n e false
-  still h = relax-same F T W (length F) D par st b n e s f he (relax-still F T W (length F) D par st b n e s he (rw pu at h))
+  pub still : at st u + turn ≤ begin + e → Relaxed F T W (length F) D st D par st begin 2048 e false
+  still h = relax-same F T W (length F) D par st begin 2048 e (r .state) (r .fine) he
+      (relax-still F T W (length F) D par st begin 2048 e (r .state) he (rw pu at h))
 
-  pub summable : b + e < at st u + turn → (start < at D u + deep) × (at D u ≤ start + deep)
-  summable h = (f u (omega (arith, g .source e he)), rw pu (sum-high F T W (length F) D par st b n e g s he (rw pu at h)))
+  pub summable : begin + e < at st u + turn → (start < at D u + deep) × (at D u ≤ start + deep)
+  summable h = (
+    r .fine u (omega (arith, g .source e he)),
+    rw pu (sum-high F T W (length F) D par st begin 2048 e g (r .state) he (rw pu at h)),
+  )
 
-  module _ (pv : v ≡ at T e) where
+  module _ {v : ℕ} (pv : v ≡ at T e) where
     pub target : (v < length par) × (v < length st) × (v < length d)
-    target = omega (arith, g .target e he, s .par-len, s .st-len, s .dist-len, length-codes start d)
+    target = omega (arith, g .target e he, r .state .par-len, r .state .st-len, r .state .dist-len, length-codes start d)
 
     pub positive : 0 < at D v
-    positive = omega (arith, f v (omega (arith, g .target e he)))
+    positive = omega (arith, r .fine v (omega (arith, g .target e he)))
 
-    module _ (x : ℤ) (hx : SFits w64 x) (late : b + e < at st u + turn) (w : ℕ) (pw : w ≡ W e) (is : Sum (at D u) w x)
-        (t : Bool) (l : Less (code start (again x)) (at D v) t) where
+    -- x is the potential of u and the weight w, and t says whether it is below that of v
+    module _ {x : ℤ} {w : ℕ} {t : Bool} (hx : SFits w64 x) (late : begin + e < at st u + turn) (pw : w ≡ W e) (is : Sum (at D u) w x)
+        (l : Less (code start (again x)) (at D v) t) where
       is′ : code start x + bias ≡ at D (at F e) + W e
       is′ = let q : at D u ≡ at D (at F e) = ap (λ (j : ℕ). at D j) pu in omega (arith, is .is)
 
       less : Less (code start x) (at D v) t
       less = simp toZ-ofZ at l
 
-      pub kept : t ≡ false → Relaxed F T W (length F) D st D par st b n e false
-      kept p = relax-same F T W (length F) D par st b n e s f he
+      pub kept : t ≡ false → Relaxed F T W (length F) D st D par st begin 2048 e false
+      kept p = relax-same F T W (length F) D par st begin 2048 e (r .state) (r .fine) he
           (λ _ _. let q : at D v ≡ at D (at T e) = ap (λ (j : ℕ). at D j) pv in omega (arith, is′, less .no p))
 
       pub changed : t ≡ true → (d' : List ℤ) → codes start d' ≡ set D v (code start (again x))
-          → Relaxed F T W (length F) D st (codes start d') (set par v (e + 1)) (set st v (b + e + 1)) b n e true
+          → Relaxed F T W (length F) D st (codes start d') (set par v (e + 1)) (set st v (begin + e + 1)) begin 2048 e true
       changed p d' q = rw q (simp toZ-ofZ (rw pv
-          (relax-changed F T W (length F) D par st b n e (code start x) g s f he (rw pu at late) (rw pv at (less .yes p)) is′)))
+          (relax-changed F T W (length F) D par st begin 2048 e (code start x) g (r .state) (r .fine) he (rw pu at late) (rw pv at (less .yes p)) is′)))

@@ -25,10 +25,10 @@ here c = let o : Marks (c .loop .mark) (c .loop .order) 2048 (c .loop .x) (c .lo
 
 -- the climb goes on: the place in order is one of the list's
 some : (c : tie.In-loop Inv-loop μ-loop) → 1 ≤ c .before .loop .top
-some c = top-some _ _ _ _ _ (c .before .loop .inv .0) (c .loop-test .taken)
+some c = top-some (c .before .loop .inv .0) (c .loop-test .taken)
 
 top : (c : tie.At-loop Inv-loop μ-loop) → c .loop .top ≤ 2048
-top c = top-most _ _ _ _ _ (c .loop .inv .0)
+top c = top-most (c .loop .inv .0)
 
 loop-holds : tie.Need-loop-holds Inv-loop μ-loop
 loop-holds c = let s = c .before .before .before in climb-begun _ _ _ _ 2048 _ (s .pre .1 .0) refl (s .pre .1 .1)
@@ -49,7 +49,7 @@ same-length : tie.Need-same-length Inv-loop μ-loop
 same-length c = omega (arith, here (c .before .before .before), S (c .before .before .before) .pre .1 .1)
 
 returns : tie.Need-returns Inv-loop μ-loop
-returns c = let l = c .before .before .before in λ g. climb-rooted _ _ _ _ _ _ _ _ (l .loop .inv .0) (l .loop .inv .1) g (c .before .before .loop-test .taken) (c .if1 .taken) 0
+returns c = let l = c .before .before .before in λ g. climb-rooted (l .loop .inv .0) (l .loop .inv .1) g (c .before .before .loop-test .taken) (c .if1 .taken) 0
 
 sub-top : tie.Need-sub-top Inv-loop μ-loop
 sub-top c = some (c .before .before)
@@ -76,14 +76,14 @@ sub-entry : tie.Need-sub-entry Inv-loop μ-loop
 sub-entry c = omega arith
 
 entry-requires : tie.Need-entry-requires Inv-loop μ-loop
-entry-requires c κs = let l = c .before .before .before in arc-of _ _ _ _ _ (l .loop .inv .0) _ _ (S l .pre .0) (c .if1 .left) .0
+entry-requires c κs = let l = c .before .before .before in arc-of (l .loop .inv .0) (S l .pre .0) (c .if1 .left) .0
 
 loop-less : tie.Need-loop-less Inv-loop μ-loop
 loop-less c = falls-down _ (some (c .before .before .before))
 
 loop-again : tie.Need-loop-again Inv-loop μ-loop
 loop-again c = let l = c .before .before .before .before in
-    climb-again _ _ _ _ _ _ _ _ _ (S l .pre .0) (l .loop .inv .0) (l .loop .inv .1) (c .before .before .before .loop-test .taken) (c .before .if1 .left) (c .entry .ensures)
+    climb-again (S l .pre .0) (l .loop .inv .0) (l .loop .inv .1) (c .before .before .before .loop-test .taken) (c .before .if1 .left) (c .entry .ensures)
 
 mul-end : tie.Need-mul-end Inv-loop μ-loop
 mul-end c = omega (arith, here (c .before))
@@ -95,7 +95,7 @@ same-length-2 : tie.Need-same-length-2 Inv-loop μ-loop
 same-length-2 c = omega (arith, here (c .before), S (c .before) .pre .1 .1)
 
 returns-2 : tie.Need-returns-2 Inv-loop μ-loop
-returns-2 c = λ g. climb-round _ _ _ _ _ _ _ _ (c .before .loop .inv .0) (c .before .loop .inv .1) g (c .loop-test .left)
+returns-2 c = λ g. climb-round (c .before .loop .inv .0) (c .before .loop .inv .1) g (c .loop-test .left)
 
 pub climb-spec : {M : Type 1} → statement M
 climb-spec =

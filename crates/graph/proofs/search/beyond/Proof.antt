@@ -28,7 +28,7 @@ same : (w : ℤ) (n : ℕ) → SFits w64 w → natAbs w ≤ n → natAbs (again 
 same w n f h = simp toZ-ofZ h
 
 add-requires : tie.Need-add-requires
-add-requires c κs = let s = c .before in rw (X c) (s .pre .1 .0, (s .pre .1 .1 .0, same _ _ (s .fits .w) (s .pre .1 .1 .1)))
+add-requires c κs = let s = c .before in rw (X c) (s .pre .1 .1 .0, (s .pre .1 .1 .1, same _ _ (s .fits .w) (s .pre .1 .0)))
 
 both : (x u : ℕ) (w r : ℤ) → SFits w64 r → SFits w64 w → x ≡ u → Sum x (code bias (again w)) r → Sum u (code bias w) (again r)
 both x u w r h f p s = simp toZ-ofZ (rw p at (simp toZ-ofZ at s))

@@ -1,4 +1,4 @@
--- `graph::search::search` meets its contract. The loop's invariant is `State` at a round's start, and that the buffers are as they were.
+-- `graph::search::search` meets its contract. The loop's invariant is `Running` at a round's start, and that the buffers are as they were.
 use mathlib.Core.Path.{_≡_, refl, ap, _∙_}
 use mathlib.Core.List.{List, _++_}
 use Prim.Native.Nat.{ℕ, _+_, _-_, _*_, _≤_, _<_}
@@ -8,59 +8,70 @@ use denote.Ref.{now}
 use lib.IntN.{ℤ}
 use lib.ListN.{length, take, drop}
 use lib.Seq.{slice}
-use Rattle.walks.proofs.Codes.{codes, length-codes}
-use Rattle.walks.proofs.Rounds.{start, turn, Arcs, State, Fine}
+use Rattle.walks.proofs.Codes.{codes}
+use Rattle.walks.proofs.Rounds.{start, turn}
 use Rattle.walks.proofs.Climbs.{Climbed}
-use Rattle.walks.proofs.Answers.{coded, arcs, widen}
-use Rattle.walks.proofs.RoundTurns.{ended-lengths, view, all-settled, one-fell, go-on, first-round, first-fine}
+use Rattle.walks.proofs.Coded.{coded, widen, Running}
+use Rattle.walks.proofs.RoundTurns.{turn-lengths, view, all-settled, one-fell, go-on, first-round}
 use Rattle.graph.proofs.Found.{potentials-found, few, cycle-found}
 use Rattle.graph.proofs.search.search.Statement.{statement}
 use Rattle.graph.proofs.search.search.Tie as tie
 
 abbrev Inv-loop : tie.InvT-loop
 Inv-loop from to cost reward k nodes potential₀ cycle₀ dist₀ parent₀ stamp₀ order₀ b₀ potential cycle dist parent stamp order b =
-    State from to (coded (k .a) (k .b) (k .c) cost reward) (length from) (codes start dist) parent stamp b 0 2048 × Fine (codes start dist) 2048
-    × (length order ≡ 2048) × (potential ≡ potential₀) × (cycle ≡ cycle₀)
+    Running from to cost reward (k .a) (k .b) (k .c) dist parent stamp b 0 × (length order ≡ 2048) × (potential ≡ potential₀) × (cycle ≡ cycle₀)
 
 abbrev μ-loop : tie.MeasureT-loop
 μ-loop from to cost reward k nodes potential₀ cycle₀ dist₀ parent₀ stamp₀ order₀ b₀ potential cycle dist parent stamp order b = turn * 2049 - b
 
--- ---- places: the entry, from the loop's head; that, from the call of `round`
+-- ---- places: the entry, from the loop's head; that, from the call of `round`; that, from the call of `climb`
 abbrev S : tie.At-loop Inv-loop μ-loop → tie.Start Inv-loop μ-loop
 S c = c .before .before .before .before .before
 
 abbrev L : tie.After-round Inv-loop μ-loop → tie.At-loop Inv-loop μ-loop
 L c = c .before .before .before .before
 
-abbrev C : tie.After-climb Inv-loop μ-loop → tie.After-round Inv-loop μ-loop
-C c = c .before .before .before .before .before .before .before
+abbrev R : tie.After-climb Inv-loop μ-loop → tie.After-round Inv-loop μ-loop
+R c = c .before .before .before .before .before .before .before
 
-abbrev W : tie.Start Inv-loop μ-loop → ℕ → ℕ
-W s = coded (s .args .k .a) (s .args .k .b) (s .args .k .c) (now (s .args .cost)) (now (s .args .reward))
+-- what the round leaves: the potentials, the parents, the stamps
+abbrev D : tie.After-round Inv-loop μ-loop → List ℤ
+D r = r .round .last .1 .1 .1 .1 .1 .0
 
-A : (s : tie.Start Inv-loop μ-loop) → Arcs (now (s .args .from)) (now (s .args .to)) (W s) (length (now (s .args .from))) 2048
-A s = arcs _ _ _ _ _ _ _ _ (s .pre .0) (s .pre .1 .0)
+abbrev P : tie.After-round Inv-loop μ-loop → List ℕ
+P r = r .round .last .1 .1 .1 .1 .1 .1 .0
 
--- the lengths at the loop's head
+abbrev T′ : tie.After-round Inv-loop μ-loop → List ℕ
+T′ r = r .round .last .1 .1 .1 .1 .1 .1 .1 .0
+
+-- what the climb leaves: the list of arcs, and where the cycle's begin and end in it
+abbrev O : tie.After-climb Inv-loop μ-loop → List ℕ
+O k = k .climb .last .1 .1 .0
+
+abbrev I : tie.After-climb Inv-loop μ-loop → ℕ
+I k = k .climb .result .start
+
+abbrev J : tie.After-climb Inv-loop μ-loop → ℕ
+J k = k .climb .result .end
+
+-- ---- the lengths at the loop's head and after a round
 held : (l : tie.At-loop Inv-loop μ-loop) → (length (l .loop .dist) ≡ 2048) × (length (l .loop .parent) ≡ 2048) × (length (l .loop .stamp) ≡ 2048)
-held l = let t = l .loop .inv .0 in omega (arith, t .dist-len, t .par-len, t .st-len, length-codes start (l .loop .dist))
+held l = turn-lengths (l .loop .dist) (l .loop .inv .0 .state)
 
--- the lengths after a round
-left : (r : tie.After-round Inv-loop μ-loop) → (length (r .round .last .1 .1 .1 .1 .1 .0) ≡ 2048) × (length (r .round .last .1 .1 .1 .1 .1 .1 .0) ≡ 2048)
-left r = let s = S (L r) in let e = ended-lengths _ _ (W s) 2048 _ (A s) _ _ _ _ (r .round .ensures) in (e .0, e .1)
+left : (r : tie.After-round Inv-loop μ-loop) → (length (D r) ≡ 2048) × (length (P r) ≡ 2048) × (length (T′ r) ≡ 2048)
+left r = turn-lengths (D r) (r .round .ensures .state)
 
--- what the climb found
-climbed : (c : tie.After-climb Inv-loop μ-loop) → Climbed (now (S (L (C c)) .args .from)) (now (S (L (C c)) .args .to)) (W (S (L (C c)))) (length (now (S (L (C c)) .args .from)))
-    (codes start (C c .round .last .1 .1 .1 .1 .1 .0)) (C c .round .last .1 .1 .1 .1 .1 .1 .1 .0) (c .climb .last .1 .1 .0) 2048 (C c .round .result) (c .climb .result .start) (c .climb .result .end)
-climbed c = let r = C c in let s = S (L r) in c .climb .ensures (view _ _ (W s) 2048 _ (A s) _ _ _ _ (r .round .ensures))
+-- ---- what the climb found, and the next round
+climbed : (k : tie.After-climb Inv-loop μ-loop) → let s = S (L (R k)) in
+    Climbed (now (s .args .from)) (now (s .args .to)) (coded (s .args .k .a) (s .args .k .b) (s .args .k .c) (now (s .args .cost)) (now (s .args .reward)))
+    (length (now (s .args .from))) (codes start (D (R k))) (T′ (R k)) (O k) 2048 (R k .round .result) (I k) (J k)
+climbed k = let r = R k in let v = L r .loop .inv .0 in k .climb .ensures (view (v .graph) (v .in-range) (r .round .ensures))
 
--- the next round
-onward : (c : tie.Else2 Inv-loop μ-loop) → (L (C (c .before .before)) .loop .b < turn * 2048)
-    × State (now (S (L (C (c .before .before))) .args .from)) (now (S (L (C (c .before .before))) .args .to)) (W (S (L (C (c .before .before))))) (length (now (S (L (C (c .before .before))) .args .from)))
-    (codes start (C (c .before .before) .round .last .1 .1 .1 .1 .1 .0)) (C (c .before .before) .round .last .1 .1 .1 .1 .1 .1 .0) (C (c .before .before) .round .last .1 .1 .1 .1 .1 .1 .1 .0) (L (C (c .before .before)) .loop .b + turn) 0 2048
-    × Fine (codes start (C (c .before .before) .round .last .1 .1 .1 .1 .1 .0)) 2048
-onward c = let k = c .before .before in let r = C k in let s = S (L r) in
-    go-on _ _ (W s) 2048 _ (A s) _ _ _ _ (r .round .ensures) (k .before .before .before .if1 .left) (climbed k .root (c .if2 .left))
+onward : (c : tie.Else2 Inv-loop μ-loop) → let r = R (c .before .before) in let s = S (L r) in (L r .loop .b < turn * 2048)
+    × Running (now (s .args .from)) (now (s .args .to)) (now (s .args .cost)) (now (s .args .reward)) (s .args .k .a) (s .args .k .b) (s .args .k .c)
+    (D r) (P r) (T′ r) (L r .loop .b + turn) 0
+onward c = let k = c .before .before in let r = R k in let v = L r .loop .inv .0 in
+    go-on (v .graph) (v .in-range) (r .round .ensures) (k .before .before .before .if1 .left) (climbed k .root (c .if2 .left)) (D r) refl
 
 array-set-of-dist : tie.Need-array-set-of-dist Inv-loop μ-loop
 array-set-of-dist c = search needs
@@ -70,7 +81,7 @@ array-write-stamp c = search needs
 
 loop-holds : tie.Need-loop-holds Inv-loop μ-loop
 loop-holds c = let s = c .before .before .before .before in
-    (first-round _ _ (W s) 2048 (A s) _ refl, first-fine _ _ (W s) 2048 (A s) _ refl, refl, refl, refl)
+    (first-round _ _ _ _ _ _ _ 2048 refl (widen (s .pre .0)) (s .pre .1 .0), refl, refl, refl)
 
 slice-aggregate-round : tie.Need-slice-aggregate-round Inv-loop μ-loop
 slice-aggregate-round c = omega (arith, held (c .before))
@@ -82,39 +93,41 @@ slice-aggregate-round-3 : tie.Need-slice-aggregate-round-3 Inv-loop μ-loop
 slice-aggregate-round-3 c = omega (arith, held (c .before .before .before))
 
 round-requires : tie.Need-round-requires Inv-loop μ-loop
-round-requires c κs = let l = c .before .before .before in let s = S l in
-    (widen _ _ _ _ _ (s .pre .0), (s .pre .1 .0, (l .loop .inv .0, l .loop .inv .1)))
+round-requires c κs = c .before .before .before .loop .inv .0
 
 slice-aggregate-potentials : tie.Need-slice-aggregate-potentials Inv-loop μ-loop
 slice-aggregate-potentials c = omega (arith, left (c .before .before .before .before .before))
 
 potentials-requires : tie.Need-potentials-requires Inv-loop μ-loop
 potentials-requires c κs = let r = c .before .before .before .before .before .before in let l = L r in let s = S l in
-    (omega (arith, left r, s .pre .0 .nodes), omega (arith, s .pre .1 .1 .0, ap length (l .loop .inv .3)))
+    (omega (arith, left r, s .pre .0 .nodes), omega (arith, s .pre .1 .1 .0, ap length (l .loop .inv .2)))
 
 same-length : tie.Need-same-length Inv-loop μ-loop
-same-length c = let l = L (c .before .before .before .before .before .before .before .before) in omega (arith, c .before .potentials .kept .1 .0, ap length (l .loop .inv .3))
+same-length c = let l = L (c .before .before .before .before .before .before .before .before) in
+    omega (arith, c .before .potentials .kept .1 .0, ap length (l .loop .inv .2))
 
 same-length-2 : tie.Need-same-length-2 Inv-loop μ-loop
-same-length-2 c = let l = L (c .before .before .before .before .before .before .before .before) in omega (arith, ap length (l .loop .inv .4))
+same-length-2 c = let l = L (c .before .before .before .before .before .before .before .before) in omega (arith, ap length (l .loop .inv .3))
 
 returns : tie.Need-returns Inv-loop μ-loop
-returns c = let r = c .before .before .before .before .before .before .before .before in let l = L r in let s = S l in (
+returns c = let r = c .before .before .before .before .before .before .before .before in let l = L r in let s = S l in let v = l .loop .inv .0 in (
   λ h. absurd (omega arith),
-  λ _. potentials-found _ _ _ _ _ _ _ _ (s .pre .0) (s .pre .1 .0) _ _ _ _ (r .round .last .1 .1 .1 .1 .1 .0) (left r .0)
-      (all-settled _ _ (W s) 2048 _ (A s) _ _ _ _ (r .round .ensures) (c .before .before .before .before .if1 .taken))
-      (c .before .potentials .ensures ∙ ap (λ (x : List ℤ). take (s .args .nodes) (r .round .last .1 .1 .1 .1 .1 .0) ++ drop (s .args .nodes) x) (l .loop .inv .3)) (l .loop .inv .4),
+  λ _. potentials-found (s .pre .0) (s .pre .1 .0) (D r) (left r .0)
+      (all-settled (v .graph) (v .in-range) (r .round .ensures) (c .before .before .before .before .if1 .taken))
+      (c .before .potentials .ensures ∙ ap (λ (x : List ℤ). take (s .args .nodes) (D r) ++ drop (s .args .nodes) x) (l .loop .inv .2)) (l .loop .inv .3),
 )
 
 slice-aggregate-climb : tie.Need-slice-aggregate-climb Inv-loop μ-loop
 slice-aggregate-climb c = omega (arith, left (c .before .before .before .before .before))
 
 slice-aggregate-climb-2 : tie.Need-slice-aggregate-climb-2 Inv-loop μ-loop
-slice-aggregate-climb-2 c = omega (arith, L (c .before .before .before .before .before .before) .loop .inv .2)
+slice-aggregate-climb-2 c = omega (arith, L (c .before .before .before .before .before .before) .loop .inv .1)
 
 climb-requires : tie.Need-climb-requires Inv-loop μ-loop
-climb-requires c κs = let r = c .before .before .before .before .before .before in let l = L r in let s = S l in
-    (view _ _ (W s) 2048 _ (A s) _ _ _ _ (r .round .ensures), (one-fell _ _ (W s) 2048 _ (A s) _ _ _ _ (r .round .ensures) (c .before .before .if1 .left), l .loop .inv .2))
+climb-requires c κs = let r = c .before .before .before .before .before .before in let l = L r in let v = l .loop .inv .0 in (
+  view (v .graph) (v .in-range) (r .round .ensures),
+  (one-fell (v .graph) (v .in-range) (r .round .ensures) (c .before .before .if1 .left), l .loop .inv .1),
+)
 
 slice-aggregate-arcs : tie.Need-slice-aggregate-arcs Inv-loop μ-loop
 slice-aggregate-arcs c = omega (arith, climbed (c .before .before .before) .order-len)
@@ -123,23 +136,27 @@ sub-arcs : tie.Need-sub-arcs Inv-loop μ-loop
 sub-arcs c = omega (arith, c .before .before .if2 .taken)
 
 arcs-requires : tie.Need-arcs-requires Inv-loop μ-loop
-arcs-requires c κs = let k = c .before .before .before .before in let l = L (C k) in let s = S l in let h = c .before .before .if2 .taken in let o = climbed k .cycle h in
-    (omega (arith, climbed k .order-len, o .0, h), omega (arith, few _ _ _ _ _ _ _ _ (s .pre .0) (s .pre .1 .0) (k .climb .last .1 .1 .0) (k .climb .result .start) (k .climb .result .end) (climbed k .order-len) (o .0) (o .1), s .pre .1 .1 .1, ap length (l .loop .inv .4)))
+arcs-requires c κs = let k = c .before .before .before .before in let l = L (R k) in let s = S l in let h = c .before .before .if2 .taken in
+    let n = climbed k .order-len in let o = climbed k .cycle h in (
+      omega (arith, n, o .0, h),
+      omega (arith, few (s .pre .0) (s .pre .1 .0) (O k) (I k) (J k) n (o .0) (o .1), s .pre .1 .1 .1, ap length (l .loop .inv .3)),
+    )
 
 sub-result : tie.Need-sub-result Inv-loop μ-loop
 sub-result c = omega (arith, c .before .before .before .before .before .if2 .taken)
 
 same-length-3 : tie.Need-same-length-3 Inv-loop μ-loop
-same-length-3 c = let l = L (C (c .before .before .before .before .before .before .before)) in omega (arith, ap length (l .loop .inv .3))
+same-length-3 c = let l = L (R (c .before .before .before .before .before .before .before)) in omega (arith, ap length (l .loop .inv .2))
 
 same-length-4 : tie.Need-same-length-4 Inv-loop μ-loop
-same-length-4 c = let l = L (C (c .before .before .before .before .before .before .before)) in omega (arith, c .before .before .arcs .kept .1 .0, ap length (l .loop .inv .4))
+same-length-4 c = let l = L (R (c .before .before .before .before .before .before .before)) in
+    omega (arith, c .before .before .arcs .kept .1 .0, ap length (l .loop .inv .3))
 
 returns-2 : tie.Need-returns-2 Inv-loop μ-loop
-returns-2 c = let k = c .before .before .before .before .before .before .before in let l = L (C k) in let s = S l in
-    let h = c .before .before .before .before .before .if2 .taken in let o = climbed k .cycle h in (
-      λ _. cycle-found _ _ _ _ _ _ _ _ (s .pre .0) (s .pre .1 .0) (k .climb .last .1 .1 .0) (k .climb .result .start) (k .climb .result .end) (climbed k .order-len) (o .0) (o .1) _ _ _ _ h (l .loop .inv .3)
-          (c .before .before .arcs .ensures ∙ ap (λ (x : List ℕ). slice (k .climb .result .start) (k .climb .result .start + (k .climb .result .end - k .climb .result .start)) (k .climb .last .1 .1 .0) ++ drop (k .climb .result .end - k .climb .result .start) x) (l .loop .inv .4)),
+returns-2 c = let k = c .before .before .before .before .before .before .before in let l = L (R k) in let s = S l in
+    let h = c .before .before .before .before .before .if2 .taken in let n = climbed k .order-len in let o = climbed k .cycle h in (
+      λ _. cycle-found (s .pre .0) (s .pre .1 .0) (O k) (I k) (J k) n (o .0) (o .1) h (l .loop .inv .2)
+          (c .before .before .arcs .ensures ∙ ap (λ (x : List ℕ). slice (I k) (I k + (J k - I k)) (O k) ++ drop (J k - I k) x) (l .loop .inv .3)),
       λ z. absurd (omega (arith, z, h)),
     )
 
@@ -150,12 +167,13 @@ loop-less : tie.Need-loop-less Inv-loop μ-loop
 loop-less c = omega (arith, onward c .0)
 
 loop-again : tie.Need-loop-again Inv-loop μ-loop
-loop-again c = let n = onward c in let k = c .before .before in let l = L (C k) in (n .1, n .2, climbed k .order-len, l .loop .inv .3, l .loop .inv .4)
+loop-again c = let k = c .before .before in let l = L (R k) in (onward c .1, climbed k .order-len, l .loop .inv .2, l .loop .inv .3)
 
 pub search-spec : {M : Type 1} → statement M
 search-spec =
     tie.close
     (tie.spec
-    Inv-loop μ-loop array-set-of-dist array-write-stamp loop-holds slice-aggregate-round slice-aggregate-round-2 slice-aggregate-round-3 round-requires
-    slice-aggregate-potentials potentials-requires same-length same-length-2 returns slice-aggregate-climb slice-aggregate-climb-2 climb-requires
-    slice-aggregate-arcs sub-arcs arcs-requires sub-result same-length-3 same-length-4 returns-2 add-b loop-less loop-again)
+    Inv-loop μ-loop array-set-of-dist array-write-stamp loop-holds slice-aggregate-round slice-aggregate-round-2 slice-aggregate-round-3
+    round-requires slice-aggregate-potentials potentials-requires same-length same-length-2 returns slice-aggregate-climb
+    slice-aggregate-climb-2 climb-requires slice-aggregate-arcs sub-arcs arcs-requires sub-result same-length-3 same-length-4 returns-2
+    add-b loop-less loop-again)

@@ -1,0 +1,68 @@
+-- The arcs in codes, and what the search has in hand while it runs. Only contracts of functions inside a crate cite it.
+use mathlib.Core.Path.{_≡_, refl, ap}
+use mathlib.Core.List.{List}
+use Prim.Native.Nat.{ℕ, _≤_, _<_}
+use native.Mathlib.Omega.{arith}
+use native.Mathlib.Nat.{lt-of-lt-of-le}
+use lib.ListN.{length}
+use lib.IntN.{ℤ, pos, natAbs}
+use Rattle.integers.proofs.Parts.{up, dn, Parts, abs-parts}
+use Rattle.walks.specs.Walk.{at, atℤ}
+use Rattle.walks.specs.Weight.{weightOf}
+use Rattle.walks.specs.Form.{Graph, InRange}
+use Rattle.walks.proofs.Weights.{all-parts}
+use Rattle.walks.proofs.Codes.{code, codes, code-parts}
+use Rattle.walks.proofs.Rounds.{bias, start, most, Arcs, State, Fine}
+
+-- the weights of the arcs, in codes
+unfoldable pub coded : ℤ → ℤ → ℤ → List ℤ → List ℕ → ℕ → ℕ
+coded a b c cost reward e = code bias (weightOf a b c cost reward e)
+
+-- the round whose stamps begin above b, after i arcs; d are the potentials. The search has room for 2048 nodes
+pub record Running (F T : List ℕ) (cost : List ℤ) (reward : List ℕ) (a b c : ℤ) (d : List ℤ) (par st : List ℕ) (begin i : ℕ) : Type 0 where
+  pub graph : Graph F T cost reward 2048
+  pub in-range : InRange a b c
+  pub state : State F T (coded a b c cost reward) (length F) (codes start d) par st begin i 2048
+  pub fine : Fine (codes start d) 2048
+
+pub coded-is : (a b c : ℤ) (cost : List ℤ) (reward : List ℕ) (e : ℕ) (z : ℤ) → z ≡ weightOf a b c cost reward e → code bias z ≡ coded a b c cost reward e
+unfolding coded
+coded-is a b c cost reward e z p = ap (code bias) p
+
+-- a graph of n nodes is one of 2048
+pub widen : {F T : List ℕ} {cost : List ℤ} {reward : List ℕ} {n : ℕ} → Graph F T cost reward n → Graph F T cost reward 2048
+widen g = record {
+  some = omega arith;
+  nodes = omega arith;
+  arcs = g .arcs;
+  tos = g .tos;
+  costs = g .costs;
+  rewards = g .rewards;
+  arc = λ e h. record {
+    source = lt-of-lt-of-le (g .arc e h .source) (g .nodes);
+    target = lt-of-lt-of-le (g .arc e h .target) (g .nodes);
+    cost-small = g .arc e h .cost-small;
+    reward-small = g .arc e h .reward-small;
+  };
+}
+
+module _ {F T : List ℕ} {cost : List ℤ} {reward : List ℕ} {a b c : ℤ} {n : ℕ} (g : Graph F T cost reward n) (k : InRange a b c) where
+  pub small : (e : ℕ) → e < length F → natAbs (weightOf a b c cost reward e) ≤ most
+  small e h = all-parts a b c (atℤ cost e) (pos (at reward e)) k (g .arc e h .cost-small) (g .arc e h .reward-small)
+
+  pub parts : (e : ℕ) → e < length F → Parts (weightOf a b c cost reward e) (coded a b c cost reward e) bias
+  unfolding coded
+  parts e h = code-parts bias (weightOf a b c cost reward e) (omega (arith, small e h, abs-parts (weightOf a b c cost reward e)))
+
+  pub arcs : Arcs F T (coded a b c cost reward) (length F) 2048
+  arcs = record {
+    some = omega arith;
+    small = omega arith;
+    few = g .arcs;
+    froms = refl;
+    tos = g .tos;
+    source = λ e h. lt-of-lt-of-le (g .arc e h .source) (g .nodes);
+    target = λ e h. lt-of-lt-of-le (g .arc e h .target) (g .nodes);
+    light = λ e h. omega (arith, parts e h, small e h, abs-parts (weightOf a b c cost reward e));
+    heavy = λ e h. omega (arith, parts e h, small e h, abs-parts (weightOf a b c cost reward e));
+  }
