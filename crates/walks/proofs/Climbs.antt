@@ -146,7 +146,8 @@ module _ (F T : List ℕ) (W : ℕ → ℕ) (m : ℕ) (D st mark order : List �
   }
 
 -- the climb has come back to a marked node
-pub climb-closed : (F T : List ℕ) (W : ℕ → ℕ) (m : ℕ) (D st mark order : List ℕ) (n v x top : ℕ) → Marks mark order n x top → Climbing F T W m D st mark order n v x top → (at D x < inf → Attained F T W m (at D x) x) → 0 < at mark x
+pub climb-closed : (F T : List ℕ) (W : ℕ → ℕ) (m : ℕ) (D st mark order : List ℕ) (n v x top : ℕ) → Marks mark order n x top
+    → Climbing F T W m D st mark order n v x top → (at D x < inf → Attained F T W m (at D x) x) → 0 < at mark x
     → (top < at mark x) × (at mark x ≤ n) × Negative F T W m (slice top (at mark x) order)
 climb-closed F T W m D st mark order n v x top o c reach h =
     let k : Climb F T W m D st x (slice top (at mark x) order) x = c .marked x (o .here) h in
@@ -168,7 +169,8 @@ climb-closed F T W m D st mark order n v x top o c reach h =
     )
 
 -- the climb begins
-pub climb-none : (F T : List ℕ) (W : ℕ → ℕ) (m : ℕ) (D st order : List ℕ) (n v : ℕ) → v < n → length order ≡ n → Marks (replicate n 0) order n v n × Climbing F T W m D st (replicate n 0) order n v v n
+pub climb-none : (F T : List ℕ) (W : ℕ → ℕ) (m : ℕ) (D st order : List ℕ) (n v : ℕ) → v < n → length order ≡ n
+    → Marks (replicate n 0) order n v n × Climbing F T W m D st (replicate n 0) order n v v n
 climb-none F T W m D st order n v h l = (
   record {
     here = h;

@@ -27,7 +27,8 @@ reach-more F T W m d x e p h q = record {
   weighs = omega (arith, total-append W (p .path) (e ∷ []), length-append (p .path) (e ∷ []), p .weighs, q);
 }
 
-pub relax-same : (F T : List ℕ) (W : ℕ → ℕ) (m : ℕ) (D par st : List ℕ) (b n e : ℕ) → State F T W m D par st b e n → Fine D n → e < m → Settled F T W D st e (b + e + 1) → Relaxed F T W m D st D par st b n e false
+pub relax-same : (F T : List ℕ) (W : ℕ → ℕ) (m : ℕ) (D par st : List ℕ) (b n e : ℕ) → State F T W m D par st b e n → Fine D n → e < m
+    → Settled F T W D st e (b + e + 1) → Relaxed F T W m D st D par st b n e false
 relax-same F T W m D par st b n e s f he d = record {
   state = record {
     begun = s .begun;
@@ -54,7 +55,8 @@ relax-same F T W m D par st b n e s f he d = record {
 }
 
 -- an arc whose source has not fallen since the arc was relaxed last
-pub relax-still : (F T : List ℕ) (W : ℕ → ℕ) (m : ℕ) (D par st : List ℕ) (b n e : ℕ) → State F T W m D par st b e n → e < m → at st (at F e) + turn ≤ b + e → Settled F T W D st e (b + e + 1)
+pub relax-still : (F T : List ℕ) (W : ℕ → ℕ) (m : ℕ) (D par st : List ℕ) (b n e : ℕ) → State F T W m D par st b e n → e < m
+    → at st (at F e) + turn ≤ b + e → Settled F T W D st e (b + e + 1)
 relax-still F T W m D par st b n e s h k _ l = s .still e h (omega (arith, s .begun)) l
 
 -- the sum that relaxing the arc e compares

@@ -84,14 +84,16 @@ module _ (F T : List ℕ) (W : ℕ → ℕ) (m : ℕ) (n : ℕ) (g : Arcs F T W 
   begin-fine = split (λ v. v < n → start < at D₀ v + 1000000000000000) 0 (λ h. omega (arith, D-0)) (λ v q h. omega (arith, D-o v q h))
 
 -- ---- a round
-pub turn-same : (F T : List ℕ) (W : ℕ → ℕ) (m : ℕ) (D par st D' par' st' : List ℕ) (b n i seen : ℕ) → Turn F T W m D par st b i n seen → Relaxed F T W m D st D' par' st' b n i false → Turn F T W m D' par' st' b (i + 1) n seen
+pub turn-same : (F T : List ℕ) (W : ℕ → ℕ) (m : ℕ) (D par st D' par' st' : List ℕ) (b n i seen : ℕ) → Turn F T W m D par st b i n seen
+    → Relaxed F T W m D st D' par' st' b n i false → Turn F T W m D' par' st' b (i + 1) n seen
 turn-same F T W m D par st D' par' st' b n i seen t x = let p : (D' ≡ D) × (st' ≡ st) = x .same refl in record {
   state = x .state;
   fine = rw (p .0) (t .fine);
   fell = rw (p .1) (t .fell);
 }
 
-pub turn-more : (F T : List ℕ) (W : ℕ → ℕ) (m : ℕ) (D par st D' par' st' : List ℕ) (b n i seen : ℕ) → Arcs F T W m n → i < m → Relaxed F T W m D st D' par' st' b n i true → seen ≡ at T i
+pub turn-more : (F T : List ℕ) (W : ℕ → ℕ) (m : ℕ) (D par st D' par' st' : List ℕ) (b n i seen : ℕ) → Arcs F T W m n → i < m
+    → Relaxed F T W m D st D' par' st' b n i true → seen ≡ at T i
     → start < at D' seen + deep → Turn F T W m D' par' st' b (i + 1) n seen
 turn-more F T W m D par st D' par' st' b n i seen g hi x p h = record {
   state = x .state;
@@ -100,12 +102,14 @@ turn-more F T W m D par st D' par' st' b n i seen g hi x p h = record {
 }
 
 -- the round ends early
-pub ended-low : (F T : List ℕ) (W : ℕ → ℕ) (m : ℕ) (D par st D' par' st' : List ℕ) (b n i seen : ℕ) (t : Bool) → Arcs F T W m n → i < m → Relaxed F T W m D st D' par' st' b n i t → seen ≡ at T i
+pub ended-low : (F T : List ℕ) (W : ℕ → ℕ) (m : ℕ) (D par st D' par' st' : List ℕ) (b n i seen : ℕ) (t : Bool) → Arcs F T W m n → i < m
+    → Relaxed F T W m D st D' par' st' b n i t → seen ≡ at T i
     → at D' seen + deep ≤ start → Ended F T W m D' par' st' b n seen
 ended-low F T W m D par st D' par' st' b n i seen t g hi x p h = record { i = i + 1; state = x .state; how = inr (omega (arith, g .target i hi, p), inr h) }
 
 -- all arcs are relaxed
-pub ended : (F T : List ℕ) (W : ℕ → ℕ) (m : ℕ) (D par st : List ℕ) (b i n seen : ℕ) → Arcs F T W m n → i ≡ m → Turn F T W m D par st b i n seen → Ended F T W m D par st b n seen
+pub ended : (F T : List ℕ) (W : ℕ → ℕ) (m : ℕ) (D par st : List ℕ) (b i n seen : ℕ) → Arcs F T W m n → i ≡ m → Turn F T W m D par st b i n seen
+    → Ended F T W m D par st b n seen
 ended F T W m D par st b i n seen g p t = record {
   i = i;
   state = t .state;
@@ -123,7 +127,8 @@ ended F T W m D par st b i n seen g p t = record {
 }
 
 -- the next round
-pub next : (F T : List ℕ) (W : ℕ → ℕ) (m : ℕ) (D par st : List ℕ) (b i n : ℕ) → Arcs F T W m n → i ≡ m → b < turn * n → State F T W m D par st b i n → State F T W m D par st (b + turn) 0 n
+pub next : (F T : List ℕ) (W : ℕ → ℕ) (m : ℕ) (D par st : List ℕ) (b i n : ℕ) → Arcs F T W m n → i ≡ m → b < turn * n
+    → State F T W m D par st b i n → State F T W m D par st (b + turn) 0 n
 next F T W m D par st b i n g p more s = record {
   begun = omega (arith, s .begun);
   rounds = omega arith;

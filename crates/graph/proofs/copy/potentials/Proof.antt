@@ -3,7 +3,6 @@ use mathlib.Core.Path.{_≡_, refl, ap, _∙_}
 use mathlib.Core.List.{List, _++_}
 use Prim.Native.Nat.{ℕ, _+_, _-_, _≤_, _<_}
 use native.Mathlib.Omega.{arith}
-use borrow.Author.Needs.{sfits-of}
 use denote.Ref.{now}
 use lib.IntN.{ℤ, pos}
 use lib.ListN.{length, set, take, drop, length-set}
@@ -11,7 +10,7 @@ use mir.Syntax.{w64}
 use mir.Val.{SFits}
 use mir.Facts.{toZ-ofZ}
 use Rattle.walks.specs.Walk.{atℤ}
-use Rattle.walks.proofs.Tests.{again}
+use Rattle.walks.proofs.Tests.{again, fits}
 use Rattle.walks.proofs.Copies.{copy-more}
 use Rattle.graph.proofs.copy.potentials.Statement.{statement}
 use Rattle.graph.proofs.copy.potentials.Tie as tie
@@ -54,7 +53,8 @@ loop-again : tie.Need-loop-again Inv-loop μ-loop
 loop-again c = let s = c .before .before .before in let l = c .before .before in (
   omega arith,
   simp length-set (l .loop .inv .1),
-  more (now (s .args .s)) _ _ (l .loop .i) (sfits-of {w = w64} {z = atℤ (now (s .args .s)) (l .loop .i)} (c .x .given)) (omega arith) (omega arith) (l .loop .inv .2),
+  more (now (s .args .s)) _ _ (l .loop .i)
+      (fits (atℤ (now (s .args .s)) (l .loop .i)) (c .x .given)) (omega arith) (omega arith) (l .loop .inv .2),
 )
 
 same-length : tie.Need-same-length Inv-loop μ-loop

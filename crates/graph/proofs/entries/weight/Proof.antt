@@ -1,14 +1,12 @@
 -- `graph::entries::weight` meets its contract.
-use mathlib.Core.Path.{_≡_, refl, ap₂, _∙_}
-use Prim.Native.Nat.{ℕ, _≤_}
-use borrow.Author.Needs.{needs, sfits-of}
-use lib.IntN.{ℤ, pos, natAbs, _+ℤ_, _*ℤ_}
-use mir.Syntax.{w64}
-use mir.Val.{SFits}
-use Rattle.integers.proofs.Machine.{back}
+use mathlib.Core.Path.{_≡_}
+use Prim.Native.Nat.{ℕ, _^_, _<_}
+use borrow.Author.Needs.{needs}
 use denote.Ref.{now}
+use lib.IntN.{ℤ, pos, _+ℤ_, _*ℤ_}
+use lib.Signed.{mag}
 use Rattle.walks.specs.Walk.{at, atℤ}
-use Rattle.walks.proofs.Tests.{again}
+use Rattle.walks.proofs.Tests.{again, passed}
 use Rattle.graph.proofs.entries.weight.Statement.{statement}
 use Rattle.graph.proofs.entries.weight.Tie as tie
 
@@ -18,26 +16,21 @@ price-requires c κs = search needs
 gain-requires : tie.Need-gain-requires
 gain-requires c κs = search needs
 
--- a price that was read, passed on
-passed : (x z : ℤ) → SFits w64 x → x ≡ z → again x ≡ z
-passed x z f p = back refl f ∙ p
-
 weigh-requires : tie.Need-weigh-requires
-weigh-requires c κs = let s = c .before .before .before in (
+weigh-requires c κs = let s = c .before .before .before in let p = c .before .price in let g = c .gain in (
   s .pre .0,
   (
-    rw (passed _ _ (sfits-of {w = w64} {z = c .before .price .result} (c .before .price .ok)) (c .before .price .ensures)) (s .pre .1 .1 .1 .0),
-    rw (passed _ _ (sfits-of {w = w64} {z = c .gain .result} (c .gain .ok)) (c .gain .ensures)) (s .pre .1 .1 .1 .1),
+    rw (passed (p .result) (p .ok) (p .ensures)) (s .pre .1 .1 .1 .0),
+    rw (passed (g .result) (g .ok) (g .ensures)) (s .pre .1 .1 .1 .1),
   ),
 )
 
-weighed : (r a b c x y x' y' : ℤ) → SFits w64 r → r ≡ a *ℤ x +ℤ b *ℤ y +ℤ c → x ≡ x' → y ≡ y' → again r ≡ a *ℤ x' +ℤ b *ℤ y' +ℤ c
-weighed r a b c x y x' y' f e p q = rw (← p, ← q) (back refl f ∙ e)
+weighed : {r x y x' y' : ℤ} (a b c : ℤ) → mag r < 2 ^ 63 → r ≡ a *ℤ x +ℤ b *ℤ y +ℤ c → x ≡ x' → y ≡ y' → again r ≡ a *ℤ x' +ℤ b *ℤ y' +ℤ c
+weighed {r} a b c f e p q = rw (← p, ← q) (passed r f e)
 
 returns : tie.Need-returns
-returns c = let p = c .before .before .price in let g = c .before .gain in let s = c .before .before .before .before in
-    weighed _ (s .args .k .a) (s .args .k .b) (s .args .k .c) _ _ (atℤ (now (s .args .cost)) (s .args .e)) (pos (at (now (s .args .reward)) (s .args .e))) (sfits-of {w = w64} {z = c .weigh .result} (c .weigh .ok)) (c .weigh .ensures)
-    (passed _ _ (sfits-of {w = w64} {z = p .result} (p .ok)) (p .ensures)) (passed _ _ (sfits-of {w = w64} {z = g .result} (g .ok)) (g .ensures))
+returns c = let p = c .before .before .price in let g = c .before .gain in let k = c .before .before .before .before .args .k in
+    weighed (k .a) (k .b) (k .c) (c .weigh .ok) (c .weigh .ensures) (passed (p .result) (p .ok) (p .ensures)) (passed (g .result) (g .ok) (g .ensures))
 
 pub weight-spec : {M : Type 1} → statement M
 weight-spec = tie.close (tie.spec price-requires gain-requires weigh-requires returns)

@@ -2,10 +2,9 @@
 use mathlib.Core.Path.{subst}
 use Prim.Native.Nat.{_≤_}
 use native.Mathlib.Omega.{arith}
-use borrow.Author.Needs.{needs, sfits-of}
+use borrow.Author.Needs.{needs}
 use denote.Ref.{now}
 use lib.IntN.{ℤ, natAbs}
-use mir.Syntax.{w64}
 use Rattle.walks.specs.Walk.{atℤ}
 use Rattle.walks.proofs.Tests.{Test, fails, range-test}
 use Rattle.graph.proofs.form.arc.Statement.{statement}
@@ -40,15 +39,15 @@ within-requires c κs = search needs
 
 Cost : (c : tie.After-within) → Test (natAbs (atℤ (now (S c .args .cost)) (S c .args .e)) ≤ 10000) (c .within .result)
 Cost c = let p = c .before .price in subst (λ (z : ℤ). Test (natAbs z ≤ 10000) (c .within .result)) (p .ensures)
-    (range-test 9999 (p .result) _ (sfits-of {w = w64} {z = p .result} (p .ok)) (c .within .ensures))
+    (range-test 9999 (p .result) (p .ok) (c .within .ensures))
 
 returns-4 : tie.Need-returns-4
 returns-4 c = record {
   yes = λ z. record {
-    source = omega (arith, c .before .before .before .before .before .before .before .entry .ensures, c .before .before .before .before .before .before .if1 .left);
-    target = omega (arith, c .before .before .before .before .before .entry2 .ensures, c .before .before .before .before .if2 .left);
+    source = let i = c .before .before .before .before .before .before in omega (arith, i .before .entry .ensures, i .if1 .left);
+    target = let i = c .before .before .before .before in omega (arith, i .before .entry2 .ensures, i .if2 .left);
     cost-small = Cost c .yes z;
-    reward-small = omega (arith, c .before .before .before .entry3 .ensures, c .before .before .if3 .left);
+    reward-small = let i = c .before .before in omega (arith, i .before .entry3 .ensures, i .if3 .left);
   };
   no = λ z p. Cost c .no z (p .cost-small);
 }

@@ -1,24 +1,33 @@
 -- `graph::form::in_range` meets its contract.
-use borrow.Author.Needs.{needs, sfits-of}
+use borrow.Author.Needs.{needs}
 use borrow.Author.Tests.{not-true, not-false}
 use Prim.Native.Nat.{_≤_}
 use lib.IntN.{natAbs}
-use mir.Syntax.{w64}
 use Rattle.walks.proofs.Tests.{Test, fails, range-test}
 use Rattle.graph.proofs.form.in_range.Statement.{statement}
 use Rattle.graph.proofs.form.in_range.Tie as tie
 
+-- the entry, from each of the calls
+abbrev S1 : tie.After-within → tie.Start
+S1 c = c .before .before .before .before
+
+abbrev S2 : tie.After-within2 → tie.Start
+S2 c = S1 (c .before .before)
+
+abbrev S3 : tie.After-within3 → tie.Start
+S3 c = S2 (c .before .before)
+
+A : (c : tie.After-within) → Test (natAbs (S1 c .args .k .a) ≤ 20480000) (c .within .result)
+A c = range-test 20479999 (S1 c .args .k .a) (c .before .before .before .struct-told .given .0 .1) (c .within .ensures)
+
+B : (c : tie.After-within2) → Test (natAbs (S2 c .args .k .b) ≤ 20480001) (c .within2 .result)
+B c = range-test 20480000 (S2 c .args .k .b) (c .before .before .before .before .struct-told2 .given .1 .0 .1) (c .within2 .ensures)
+
+C : (c : tie.After-within3) → Test (natAbs (S3 c .args .k .c) ≤ 1) (c .within3 .result)
+C c = range-test 0 (S3 c .args .k .c) (c .before .before .before .before .before .struct-told3 .given .1 .1 .0 .1) (c .within3 .ensures)
+
 within-requires : tie.Need-within-requires
 within-requires c κs = search needs
-
-A : (c : tie.After-within) → Test (natAbs (c .before .before .before .before .args .k .a) ≤ 20480000) (c .within .result)
-A c = range-test 20479999 (c .before .before .before .before .args .k .a) _ (sfits-of (c .before .before .before .struct-told .given .0 .1)) (c .within .ensures)
-
-B : (c : tie.After-within2) → Test (natAbs (c .before .before .before .before .before .before .args .k .b) ≤ 20480001) (c .within2 .result)
-B c = range-test 20480000 (c .before .before .before .before .before .before .args .k .b) _ (sfits-of (c .before .before .before .before .struct-told2 .given .1 .0 .1)) (c .within2 .ensures)
-
-C : (c : tie.After-within3) → Test (natAbs (c .before .before .before .before .before .before .before .before .args .k .c) ≤ 1) (c .within3 .result)
-C c = range-test 0 (c .before .before .before .before .before .before .before .before .args .k .c) _ (sfits-of (c .before .before .before .before .before .struct-told3 .given .1 .1 .0 .1)) (c .within3 .ensures)
 
 returns : tie.Need-returns
 returns c = fails (λ p. A (c .before) .no (not-true _ (c .if1 .taken)) (p .a-small))

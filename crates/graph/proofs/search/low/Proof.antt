@@ -3,7 +3,7 @@ use mathlib.Core.Path.{_≡_, refl, sym, ap, subst, _∙_}
 use mathlib.Core.Bool.{Bool}
 use Prim.Native.Nat.{ℕ, _<_}
 use native.Mathlib.Omega.{arith}
-use borrow.Author.Needs.{needs, sfits-of}
+use borrow.Author.Needs.{needs}
 use denote.Ref.{now}
 use lib.IntN.{ℤ}
 use mir.Syntax.{w64}
@@ -11,13 +11,15 @@ use Rattle.walks.specs.Walk.{at, atℤ}
 use Rattle.walks.proofs.Rounds.{start}
 use Rattle.walks.proofs.Codes.{code, codes}
 use Rattle.walks.proofs.Signed.{Less}
-use Rattle.walks.proofs.Tests.{again}
+use Rattle.walks.proofs.Tests.{again, fits}
 use Rattle.walks.proofs.Signed.{elem, is-low}
 use Rattle.graph.proofs.search.low.Statement.{statement}
 use Rattle.graph.proofs.search.low.Tie as tie
 
-E : (c : tie.After-y) → code start (again (atℤ (now (c .before .args .dist)) (c .before .args .v))) ≡ at (codes start (now (c .before .args .dist))) (c .before .args .v)
-E c = elem start (now (c .before .args .dist)) (c .before .args .v) (c .before .pre) (sfits-of {w = w64} {z = atℤ (now (c .before .args .dist)) (c .before .args .v)} (c .y .given))
+-- the potential that was read
+E : (c : tie.After-y) → let s = c .before in
+    code start (again (atℤ (now (s .args .dist)) (s .args .v))) ≡ at (codes start (now (s .args .dist))) (s .args .v)
+E c = let s = c .before in elem start (now (s .args .dist)) (s .args .v) (s .pre) (c .y .given)
 
 mul-y : tie.Need-mul-y
 mul-y c = search needs

@@ -1,16 +1,13 @@
 -- `graph::search::relax` meets its contract.
-use mathlib.Core.Path.{_≡_, _∙_, refl}
+use mathlib.Core.Path.{_≡_}
 use Prim.Native.Nat.{ℕ, _+_, _≤_, _<_}
 use native.Mathlib.Omega.{arith}
-use borrow.Author.Needs.{needs, sfits-of}
+use borrow.Author.Needs.{needs}
 use denote.Ref.{now}
 use lib.ListN.{length}
 use lib.IntN.{ℤ, natAbs}
-use mir.Syntax.{w64}
-use mir.Val.{SFits}
-use Rattle.integers.proofs.Machine.{back}
 use Rattle.walks.specs.Weight.{weightOf}
-use Rattle.walks.proofs.Tests.{again}
+use Rattle.walks.proofs.Tests.{again, fits, passed}
 use Rattle.walks.proofs.Coded.{coded-is, small}
 use Rattle.walks.proofs.RelaxTurns.{source, stamp, still, summable, target, positive, kept, changed}
 use Rattle.graph.proofs.search.relax.Statement.{statement}
@@ -39,15 +36,12 @@ Target : (c : tie.After-entry2) → (c .entry2 .result < length (now (S (U c) .a
 Target c = let u = U c in let s = S u in target (s .pre .0) (s .pre .1) (u .entry .ensures) (c .entry2 .ensures)
 
 -- ---- the weight, passed on
-passed : (r z : ℤ) → SFits w64 r → r ≡ z → again r ≡ z
-passed r z f p = back refl f ∙ p
-
 weightAt : tie.Start → ℤ
 weightAt s = weightOf (s .args .k .a) (s .args .k .b) (s .args .k .c) (now (s .args .cost)) (now (s .args .reward)) (s .args .e)
 
 Weight : (c : tie.After-weight) → again (c .weight .result) ≡ weightAt (S (U (V′ c)))
 unfolding weightAt
-Weight c = passed _ _ (sfits-of {w = w64} {z = c .weight .result} (c .weight .ok)) (c .weight .ensures)
+Weight c = passed (c .weight .result) (c .weight .ok) (c .weight .ensures)
 
 light : (r z : ℤ) (n : ℕ) → r ≡ z → natAbs z ≤ n → natAbs r ≤ n
 light r z n p h = rw p h
@@ -81,7 +75,10 @@ beyond-requires : tie.Need-beyond-requires
 unfolding weightAt
 beyond-requires c κs = let v = V′ c in let u = U v in let s = S u in (
   Source u .2,
-  (light _ _ _ (Weight c) (small (s .pre .0 .graph) (s .pre .0 .in-range) _ (s .pre .1)), summable (s .pre .0) (s .pre .1) (u .entry .ensures) (v .before .if1 .left)),
+  (
+    light _ _ _ (Weight c) (small (s .pre .0 .graph) (s .pre .0 .in-range) _ (s .pre .1)),
+    summable (s .pre .0) (s .pre .1) (u .entry .ensures) (v .before .if1 .left),
+  ),
 )
 
 improves-requires : tie.Need-improves-requires
@@ -124,7 +121,7 @@ same-length-3 c = search needs
 returns-2 : tie.Need-returns-2
 unfolding weightAt
 returns-2 c = let i = c .before .before .before .before in let x = i .before .before .beyond in let w = W i in let v = V′ w in let u = U v in let s = S u in
-    changed (s .pre .0) (s .pre .1) (u .entry .ensures) (v .entry2 .ensures) (sfits-of {w = w64} {z = x .result} (x .ok)) (v .before .if1 .left)
+    changed (s .pre .0) (s .pre .1) (u .entry .ensures) (v .entry2 .ensures) (fits (x .result) (x .ok)) (v .before .if1 .left)
     (coded-is _ _ _ _ _ _ _ (Weight w)) (x .ensures) (i .improves .ensures) (c .before .before .before .if2 .taken) _ (c .before .put .ensures)
 
 same-length-4 : tie.Need-same-length-4
@@ -133,7 +130,7 @@ same-length-4 c = search needs
 returns-3 : tie.Need-returns-3
 unfolding weightAt
 returns-3 c = let i = c .before in let x = i .before .before .beyond in let w = W i in let v = V′ w in let u = U v in let s = S u in
-    kept (s .pre .0) (s .pre .1) (u .entry .ensures) (v .entry2 .ensures) (sfits-of {w = w64} {z = x .result} (x .ok)) (v .before .if1 .left)
+    kept (s .pre .0) (s .pre .1) (u .entry .ensures) (v .entry2 .ensures) (fits (x .result) (x .ok)) (v .before .if1 .left)
     (coded-is _ _ _ _ _ _ _ (Weight w)) (x .ensures) (i .improves .ensures) (c .if2 .left)
 
 pub relax-spec : {M : Type 1} → statement M

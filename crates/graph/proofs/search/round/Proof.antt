@@ -38,7 +38,8 @@ taken : (r : tie.After-relax Inv-loop μ-loop) → L r .loop .e < length (now (S
 taken r = r .before .before .before .before .loop-test .taken
 
 -- ---- the slices' lengths at the entry, at the loop's head and after `relax`
-entered : (s : tie.Start Inv-loop μ-loop) → (length (now (s .args .dist)) ≡ 2048) × (length (now (s .args .parent)) ≡ 2048) × (length (now (s .args .stamp)) ≡ 2048)
+entered : (s : tie.Start Inv-loop μ-loop)
+    → (length (now (s .args .dist)) ≡ 2048) × (length (now (s .args .parent)) ≡ 2048) × (length (now (s .args .stamp)) ≡ 2048)
 entered s = turn-lengths (now (s .args .dist)) (s .pre .state)
 
 kept : (l : tie.At-loop Inv-loop μ-loop) → (length (l .loop .dist) ≡ 2048) × (length (l .loop .parent) ≡ 2048) × (length (l .loop .stamp) ≡ 2048)
