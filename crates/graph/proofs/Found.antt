@@ -1,5 +1,5 @@
 -- What the search leaves in the buffers is what it answers, over plain lists.
-use mathlib.Core.Path.{_≡_, refl, sym, ap, subst, _∙_}
+use mathlib.Core.Path.{_≡_, sym, ap, subst, _∙_}
 use mathlib.Core.List.{List, _++_}
 use Prim.Native.Nat.{ℕ, _+_, _-_, _≤_, _<_}
 use native.Mathlib.Omega.{arith}
@@ -7,7 +7,7 @@ use lib.ListN.{length, take, drop, List·getD-append}
 use lib.Seq.{slice, length-slice, length-take-le, getD-take, take-at, drop-at}
 use lib.IntN.{ℤ, pos}
 use Rattle.walks.specs.Walk.{atℤ}
-use Rattle.walks.specs.Weight.{weightOf, NegativeCycle, Potential}
+use Rattle.walks.specs.Weight.{weightOf, Potential}
 use Rattle.walks.specs.Form.{Graph, InRange}
 use Rattle.walks.proofs.Codes.{codes}
 use Rattle.walks.proofs.Rounds.{start, Least}

@@ -1,6 +1,5 @@
 // A simple cycle of negative weight that a walk from node 0 reaches, or the potentials: the least weights of walks from node 0.
 // The arc e leads from from[e] to to[e], and weighs a * cost[e] + b * reward[e] + c.
-ghost use lib.ListN.{length};
 ghost use Rattle.graph.specs.Answer.{Answered};
 
 mod climb;

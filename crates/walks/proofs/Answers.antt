@@ -7,7 +7,7 @@ use native.Mathlib.Omega.{arith}
 use native.Mathlib.Decide.{decLt}
 use lib.ListN.{length}
 use lib.IntN.{ℤ, pos, _+ℤ_}
-use Rattle.integers.proofs.Parts.{up, dn, Parts, plus, ext, le-of, lt-of}
+use Rattle.integers.proofs.Parts.{Parts, plus, ext, le-of, lt-of}
 use Rattle.integers.proofs.Pigeonhole.{pigeon}
 use Rattle.walks.specs.Walk.{at, atℤ, Walk}
 use Rattle.walks.specs.Weight.{weightOf, sum, total, NegativeCycle, NoneNegative, LeastWeight, unreached, Potential}

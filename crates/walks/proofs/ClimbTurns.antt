@@ -1,12 +1,11 @@
 -- The turns of the climb's loop, over plain lists. `par` holds for each node its parent arc and 1, or 0.
-use mathlib.Core.Path.{_≡_, sym}
+use mathlib.Core.Path.{_≡_}
 use mathlib.Core.List.{List}
-use Prim.Native.Nat.{ℕ, zero, suc, _+_, _-_, _*_, _≤_, _<_}
+use Prim.Native.Nat.{ℕ, zero, suc, _+_, _-_, _≤_, _<_}
 use native.Mathlib.Omega.{arith}
 use native.Mathlib.Numerals.{add-one}
 use lib.ListN.{length, set, replicate}
 use Rattle.walks.specs.Walk.{at}
-use Rattle.walks.proofs.Rounds.{start, most, turn}
 use Rattle.walks.proofs.Zeros.{zeros-le, zeros-set}
 use Rattle.walks.proofs.Climbs.{View, Climbing, Marks, Climbed, climb-marks, climb-more, climb-closed, climb-none}
 

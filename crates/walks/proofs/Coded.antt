@@ -6,7 +6,7 @@ use native.Mathlib.Omega.{arith}
 use native.Mathlib.Nat.{lt-of-lt-of-le}
 use lib.ListN.{length}
 use lib.IntN.{ℤ, pos, natAbs}
-use Rattle.integers.proofs.Parts.{up, dn, Parts, abs-parts}
+use Rattle.integers.proofs.Parts.{Parts, abs-parts}
 use Rattle.walks.specs.Walk.{at, atℤ}
 use Rattle.walks.specs.Weight.{weightOf}
 use Rattle.walks.specs.Form.{Graph, InRange}

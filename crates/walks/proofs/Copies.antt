@@ -1,11 +1,11 @@
 -- A loop that copies to the front of a list, one store a turn: after i turns it is `take i s ++ drop i d`.
-use mathlib.Core.Path.{_≡_, refl, sym, ap, _∙_}
+use mathlib.Core.Path.{_≡_, sym, ap, _∙_}
 use mathlib.Core.List.{List, _++_, append-assoc}
-use Prim.Native.Nat.{ℕ, suc, _+_, _-_, _≤_, _<_}
+use Prim.Native.Nat.{ℕ, suc, _+_, _<_}
 use native.Mathlib.Omega.{arith}
 use native.Mathlib.Numerals.{add-one}
 use lib.ListN.{length, set, getD, take, drop}
-use lib.Seq.{set-at, drop-cons, take-suc, append-snoc, length-take-le, slice, getD-take, getD-drop, length-slice, take-at, drop-at}
+use lib.Seq.{set-at, drop-cons, take-suc, append-snoc, length-take-le, slice, getD-take, getD-drop}
 
 module _ {A : Type 0} (z : A) (s d l : List A) (i : ℕ) where
   pub copy-more : i < length d → i < length s → l ≡ take i s ++ drop i d → set l i (getD s i z) ≡ take (i + 1) s ++ drop (i + 1) d

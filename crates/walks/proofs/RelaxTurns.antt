@@ -13,7 +13,7 @@ use Rattle.walks.specs.Walk.{at}
 use Rattle.walks.proofs.Tests.{again}
 use Rattle.walks.proofs.Codes.{code, codes, length-codes}
 use Rattle.walks.proofs.Signed.{Sum, Less}
-use Rattle.walks.proofs.Rounds.{bias, start, deep, turn, Arcs, State, Fine, Relaxed}
+use Rattle.walks.proofs.Rounds.{bias, start, deep, turn, Arcs, Relaxed}
 use Rattle.walks.proofs.Relaxing.{sum-high, relax-same, relax-still, relax-changed}
 use Rattle.walks.proofs.Coded.{coded, arcs, Running}
 

@@ -8,7 +8,7 @@ use native.Mathlib.Omega.{arith}
 use native.Mathlib.Numerals.{add-one}
 use native.Mathlib.Decide.{ℕ-discrete}
 use borrow.Author.Count.{below-more}
-use lib.ListN.{length, set, length-append, length-set}
+use lib.ListN.{set, length-append, length-set}
 use lib.Seq.{getD-set-same, getD-set-other}
 use Rattle.walks.specs.Walk.{at}
 use Rattle.walks.proofs.Walks.{walk-snoc}

@@ -1,5 +1,5 @@
 -- The rounds: how they begin, how one goes on and ends, and that potentials without a fall are least.
-use mathlib.Core.Path.{_≡_, refl, ap, subst, _∙_}
+use mathlib.Core.Path.{_≡_, refl, ap, _∙_}
 use mathlib.Core.Logic.{_≢_, inl, inr, ⊎-elim}
 use mathlib.Core.List.{List, [], _∷_}
 use mathlib.Core.Bool.{Bool, true, false}
@@ -9,7 +9,7 @@ use lib.ListN.{length, set, length-set, replicate, getD-replicate, length-replic
 use lib.Seq.{getD-set-same, getD-set-other}
 use Rattle.walks.specs.Walk.{at, Walk}
 use Rattle.walks.specs.Weight.{total}
-use Rattle.walks.proofs.Rounds.{bias, start, inf, most, deep, turn, Arcs, Attained, Least, Settled, zeros, State, Fine, Relaxed, Turn, Ended}
+use Rattle.walks.proofs.Rounds.{bias, start, inf, most, deep, turn, Arcs, Attained, Least, zeros, State, Fine, Relaxed, Turn, Ended}
 use Rattle.walks.proofs.Zeros.{split, zeros-replicate}
 
 -- ---- least potentials

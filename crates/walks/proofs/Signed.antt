@@ -2,7 +2,7 @@
 use mathlib.Core.Path.{_≡_, sym}
 use mathlib.Core.List.{List}
 use mathlib.Core.Bool.{Bool, true, false}
-use Prim.Native.Nat.{ℕ, _+_, _-_, _^_, _≤_, _<_}
+use Prim.Native.Nat.{ℕ, _+_, _^_, _≤_, _<_}
 use native.Mathlib.Omega.{arith}
 use lib.ListN.{length, set}
 use lib.IntN.{ℤ, natAbs, _+ℤ_}
@@ -11,7 +11,7 @@ use mir.Syntax.{w64}
 use mir.Val.{SFits}
 use mir.Facts.{toZ-ofZ}
 use borrow.Author.Needs.{sfits-of}
-use Rattle.integers.proofs.Parts.{up, dn, Parts, abs-parts, mag-below, add-parts, less, not-less}
+use Rattle.integers.proofs.Parts.{Parts, abs-parts, mag-below, add-parts, less, not-less}
 use Rattle.walks.specs.Walk.{at, atℤ}
 use Rattle.walks.proofs.Tests.{again, fits}
 use Rattle.walks.proofs.Codes.{code, codes, at-codes, set-codes, code-parts}

@@ -1,18 +1,18 @@
 -- Laws on the weights of walks.
-use mathlib.Core.Path.{_≡_, refl, sym, ap, subst, _∙_}
+use mathlib.Core.Path.{_≡_, refl, sym, ap, _∙_}
 use mathlib.Core.Logic.{⊎-elim}
 use mathlib.Core.List.{List, [], _∷_, _++_}
-use Prim.Native.Nat.{ℕ, zero, suc, _+_, _*_, _≤_, _<_}
+use Prim.Native.Nat.{ℕ, _+_, _*_, _≤_, _<_}
 use native.Mathlib.Omega.{arith}
 use native.Mathlib.Nat.{mul-le-mul}
 use lib.ListN.{length}
 use lib.IntN.{ℤ, pos, natAbs, _+ℤ_, _*ℤ_, *ℤ-zero, zero-*ℤ, +ℤ-assoc}
 use lib.Signed.{_≤ℤ_}
-use Rattle.integers.proofs.Parts.{up, dn, ext, le-of, le-parts, add-parts}
+use Rattle.integers.proofs.Parts.{ext, le-of, le-parts, add-parts}
 use Rattle.integers.proofs.Products.{abs-add, abs-mul, mul-sum, times-suc}
-use Rattle.walks.specs.Walk.{at, atℤ, Walk, Reached, Cycle}
+use Rattle.walks.specs.Walk.{at, atℤ, Walk, Reached}
 use Rattle.walks.specs.Weight.{weightOf, sum, total, NoneNegative, LeastWeight, Potential}
-use Rattle.walks.specs.Form.{Arc, InRange}
+use Rattle.walks.specs.Form.{InRange}
 use Rattle.walks.proofs.Walks.{walk-append}
 
 pub sum-append : (weight : ℕ → ℤ) (p c : List ℕ) → sum weight (p ++ c) ≡ sum weight p +ℤ sum weight c

@@ -1,11 +1,11 @@
 -- `graph::climb::climb` meets its contract. The loop's invariant is `Marks` and, whatever the rest of the graph is, `Climbing`.
 use mathlib.Core.Path.{_≡_, refl}
-use Prim.Native.Nat.{ℕ, _-_, _*_, _≤_, _<_}
+use Prim.Native.Nat.{_≤_, _<_}
 use native.Mathlib.Omega.{arith}
 use borrow.Author.Count.{falls-down}
 use denote.Ref.{now}
 use lib.ListN.{length}
-use Rattle.walks.proofs.Climbs.{View, Marks}
+use Rattle.walks.proofs.Climbs.{Marks}
 use Rattle.walks.proofs.ClimbTurns.{Climbs, top-some, top-most, arc-of, climb-again, climb-begun, climb-rooted, climb-round}
 use Rattle.graph.proofs.climb.climb.Statement.{statement}
 use Rattle.graph.proofs.climb.climb.Tie as tie

@@ -1,11 +1,9 @@
 -- `graph::entries::weight` meets its contract.
 use mathlib.Core.Path.{_≡_}
-use Prim.Native.Nat.{ℕ, _^_, _<_}
+use Prim.Native.Nat.{_^_, _<_}
 use borrow.Author.Needs.{needs}
-use denote.Ref.{now}
-use lib.IntN.{ℤ, pos, _+ℤ_, _*ℤ_}
+use lib.IntN.{ℤ, _+ℤ_, _*ℤ_}
 use lib.Signed.{mag}
-use Rattle.walks.specs.Walk.{at, atℤ}
 use Rattle.walks.proofs.Tests.{again, passed}
 use Rattle.graph.proofs.entries.weight.Statement.{statement}
 use Rattle.graph.proofs.entries.weight.Tie as tie

@@ -1,6 +1,5 @@
 -- `graph::form::well_formed` meets its contract.
 use native.Mathlib.Omega.{arith}
-use borrow.Author.Needs.{needs}
 use borrow.Author.Tests.{not-true, not-false}
 use Rattle.walks.proofs.Tests.{fails}
 use Rattle.graph.proofs.form.well_formed.Statement.{statement}

@@ -1,17 +1,12 @@
 -- `graph::search::low` meets its contract.
-use mathlib.Core.Path.{_≡_, refl, sym, ap, subst, _∙_}
-use mathlib.Core.Bool.{Bool}
-use Prim.Native.Nat.{ℕ, _<_}
+use mathlib.Core.Path.{_≡_}
 use native.Mathlib.Omega.{arith}
 use borrow.Author.Needs.{needs}
 use denote.Ref.{now}
-use lib.IntN.{ℤ}
-use mir.Syntax.{w64}
 use Rattle.walks.specs.Walk.{at, atℤ}
 use Rattle.walks.proofs.Rounds.{start}
 use Rattle.walks.proofs.Codes.{code, codes}
-use Rattle.walks.proofs.Signed.{Less}
-use Rattle.walks.proofs.Tests.{again, fits}
+use Rattle.walks.proofs.Tests.{again}
 use Rattle.walks.proofs.Signed.{elem, is-low}
 use Rattle.graph.proofs.search.low.Statement.{statement}
 use Rattle.graph.proofs.search.low.Tie as tie
