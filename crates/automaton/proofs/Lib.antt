@@ -2,3 +2,8 @@ pub mod Tests
 pub mod Lists
 pub mod Ranks
 pub mod Largest
+pub mod Bounds
+pub mod Chains
+pub mod Codes
+pub mod Thresholds
+pub mod Ticks
