@@ -7,3 +7,10 @@ pub mod Chains
 pub mod Codes
 pub mod Thresholds
 pub mod Ticks
+pub mod Falls
+pub mod Weights
+pub mod Walks
+pub mod Potentials
+pub mod Covers
+pub mod Places
+pub mod Comparison

@@ -31,5 +31,5 @@ pub record Loop (A : Automaton) (n : ℕ) (members : List Member) (c : ℤ) (r :
   pub between : run A n (first .to) (slice i j members) ≡ some (record { to = last .to; cost = c; reward = r })
 
 -- Demand 3: for every n ≥ 1, every list of delays and edges and each loop in it, the loop's cost times q is at least its reward times p.
-pub NoLoopBelow : Automaton → ℤ → ℕ → Type 0
+unfoldable pub NoLoopBelow : Automaton → ℤ → ℕ → Type 0
 NoLoopBelow A p q = (n : ℕ) → 0 < n → (members : List Member) (c : ℤ) (r : ℕ) → Loop A n members c r → (p *ℤ pos r) ≤ℤ (pos q *ℤ c)
