@@ -10,6 +10,8 @@ pub mod Ticks
 pub mod Falls
 pub mod Weights
 pub mod Walks
+pub mod Nodes
+pub mod Reached
 pub mod Potentials
 pub mod Covers
 pub mod Places

@@ -107,6 +107,14 @@ close-mask r f =
     M : List ℕ
     M = mask r (map (rank f) f)
 
+mask-none : (xs : List ℕ) → mask (λ j. false) xs ≡ xs
+unfolding mask
+mask-none [] = refl
+mask-none (x ∷ xs) = ap (λ (r : List ℕ). x ∷ r) (mask-none xs)
+
+pub close-close : (f : List ℕ) → closeUp (closeUp f) ≡ closeUp f
+close-close f = ap closeUp (sym (mask-none (closeUp f))) ∙ close-mask (λ j. false) f ∙ ap closeUp (mask-none f)
+
 -- ---- one nth more
 
 occurs-suc : (v : ℕ) (f : List ℕ) → occurs (suc v) (map suc f) ≡ occurs v f
