@@ -12,6 +12,8 @@ pub mod Weights
 pub mod Walks
 pub mod Nodes
 pub mod Reached
+pub mod Corners
+pub mod Ratios
 pub mod Potentials
 pub mod Covers
 pub mod Places
