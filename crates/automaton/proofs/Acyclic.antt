@@ -2,14 +2,14 @@
 use mathlib.Core.Path.{_≡_, sym, ap, subst}
 use mathlib.Core.List.{List, [], _∷_}
 use mathlib.Core.Option.{Option, some}
-use Prim.Native.Nat.{ℕ, _+_, _≤_, _<_}
+use Prim.Native.Nat.{ℕ, _+_, _≤_}
 use native.Mathlib.Omega.{arith}
 use lib.IntN.{ℤ}
 use lib.ListN.{length}
 use lib.Signed.{_<ℤ_}
 use Rattle.integers.proofs.Parts.{up, dn, lt-parts}
 use Rattle.automaton.specs.Priced.{Priced, chain}
-use Rattle.automaton.specs.Walks.{Walk, Reachable, Cycle}
+use Rattle.automaton.specs.Walks.{Reachable, Cycle}
 use Rattle.automaton.proofs.Chains.{some-inj, then-split}
 use Rattle.automaton.proofs.Walks.{reach-step}
 

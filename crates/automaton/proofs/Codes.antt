@@ -1,12 +1,12 @@
 -- Laws of the step codes: which step a code means, and when a step is allowed.
-use mathlib.Core.Path.{_≡_, refl, sym, ap, _∙_, subst}
+use mathlib.Core.Path.{_≡_, refl, sym, ap, _∙_}
 use mathlib.Core.Bool.{Bool, true, false, cond, _&&_, not}
-use mathlib.Core.Option.{Option, none, some}
+use mathlib.Core.Option.{none, some}
 use Prim.Native.Nat.{ℕ, _≤_, _<_}
 use native.Mathlib.Omega.{arith}
 use borrow.Author.Tests.{leb-true, le-leb, eqb-true, eq-eqb, ltb-true, lt-ltb, not-true}
 use lib.Dec.{leb, ltb, eqb}
-use Rattle.automaton.specs.Tests.{only, occurs}
+use Rattle.automaton.specs.Tests.{only}
 use Rattle.automaton.specs.Automaton.{Automaton}
 use Rattle.automaton.specs.Priced.{Priced, free}
 use Rattle.automaton.specs.Nodes.{Node, inside, largestClass}

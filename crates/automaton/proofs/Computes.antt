@@ -14,7 +14,7 @@ use Rattle.automaton.specs.Automaton.{Automaton, inBounds, inGuards}
 use Rattle.automaton.specs.Priced.{Priced, chain}
 use Rattle.automaton.specs.Nodes.{Node, point, isNode, startNode}
 use Rattle.automaton.specs.Steps.{edgeStep, unitStep, moveStep, step}
-use Rattle.automaton.specs.Runs.{State, Member, delay, edge, takes, run, startState}
+use Rattle.automaton.specs.Runs.{delay, edge, takes, run, startState}
 use Rattle.automaton.specs.Loops.{place}
 
 -- "an index with class values 1 and 3 becomes 1 and 2"

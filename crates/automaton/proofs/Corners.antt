@@ -1,17 +1,17 @@
 -- What steps do to the corner point, as 000 asks of the transitions of its abstraction: an edge sets the masked clocks to 0,
 -- a unit of delay adds 1 to every clock, and a move leaves the point where it is.
 use mathlib.Core.Path.{_≡_, refl, sym, ap, ap₂, _∙_, subst}
-use mathlib.Core.Bool.{Bool, true, false, cond, not}
+use mathlib.Core.Bool.{Bool, true, false, cond}
 use mathlib.Core.List.{List, [], _∷_, map, zipWith}
 use mathlib.Core.Option.{some}
-use Prim.Native.Nat.{ℕ, zero, suc, _≤_, _<_}
+use Prim.Native.Nat.{ℕ, suc, _≤_, _<_}
 use native.Mathlib.Omega.{arith}
-use borrow.Author.Tests.{lt-ltb, le-ltb, ltb-true, ltb-false, eqb-true, eqb-false, ne-eqb}
+use borrow.Author.Tests.{lt-ltb, le-ltb, ltb-true, ltb-false, eqb-true, eqb-false}
 use lib.Dec.{ltb, eqb, leb·suc-suc}
 use Rattle.automaton.specs.Tests.{oneMoreIf, occurs}
-use Rattle.automaton.specs.Ranks.{rank, closeUp, mask, largest}
+use Rattle.automaton.specs.Ranks.{rank, closeUp, mask}
 use Rattle.automaton.specs.Automaton.{Automaton}
-use Rattle.automaton.specs.Priced.{Priced, free}
+use Rattle.automaton.specs.Priced.{Priced}
 use Rattle.automaton.specs.Nodes.{Node, largestClass, point}
 use Rattle.automaton.specs.Steps.{edgeTo, edgeAllowed, edgeStep, someWhole, unitTo, riseTo, carryWhole, carryClass, carryTo, step}
 use Rattle.automaton.proofs.Tests.{by-bool, by-order, clash, only-value}
@@ -82,8 +82,10 @@ edge-point A u e = zip-right (at-corner i) (at-corner (rank M i)) (rank M) (mask
 
 pub unit-point : (u : Node) → someWhole u ≡ false → u .corner ≡ largestClass u → point (unitTo u) ≡ map suc (point u)
 unfolding at-corner
-unit-point u w l = zip-out (at-corner (u .corner)) (at-corner 0) suc (u .region .whole) (u .region .class) (record { at = λ k m h.
-    corner-by true 0 h k (lt-ltb 0 k (positive k m)) ∙ sym (ap suc (corner-by false (u .corner) h k (le-ltb (u .corner) k (omega (arith, occurs-le k (u .region .class) m))))) })
+unit-point u w l = zip-out (at-corner (u .corner)) (at-corner 0) suc (u .region .whole) (u .region .class) (record {
+  at = λ k m h.
+      corner-by true 0 h k (lt-ltb 0 k (positive k m)) ∙ sym (ap suc (corner-by false (u .corner) h k (le-ltb (u .corner) k (omega (arith, occurs-le k (u .region .class) m)))));
+})
   where
     positive : (k : ℕ) → occurs k (u .region .class) ≡ true → 0 < k
     positive k m = by-order 0 k (λ l. l) (λ e. clash (subst (λ (x : ℕ). occurs x (u .region .class) ≡ true) (sym e) m) w) (λ l. absurd (omega arith))

@@ -1,5 +1,5 @@
 -- The potentials of a state's nodes, summed over the thresholds, fall by at most the weight of what a run takes.
-use mathlib.Core.Path.{_≡_, refl, sym, ap, ap₂, _∙_, subst, subst₂}
+use mathlib.Core.Path.{_≡_, sym, ap, ap₂, _∙_, subst, subst₂}
 use mathlib.Core.Bool.{true}
 use mathlib.Core.List.{List, map, map-map}
 use mathlib.Core.Option.{some}
@@ -7,13 +7,13 @@ use Prim.Native.Nat.{ℕ, zero, suc, _+_, _*_, _≤_, _<_}
 use native.Mathlib.Nat.{suc-mul, zero-mul, add-zero, add-suc}
 use native.Mathlib.Omega.{arith}
 use borrow.Author.Tests.{ltb-true}
-use lib.Dec.{ltb, eqb}
+use lib.Dec.{ltb}
 use lib.IntN.{ℤ, pos, _+ℤ_, _*ℤ_, zero-*ℤ, +ℤ-idl, +ℤ-idr}
 use Rattle.integers.proofs.Products.{times-suc}
 use Rattle.automaton.specs.Tests.{occurs}
-use Rattle.automaton.specs.Bounds.{upperHoldsNths, lowerHoldsNths}
+use Rattle.automaton.specs.Bounds.{upperHoldsNths}
 use Rattle.automaton.specs.Ranks.{rank}
-use Rattle.automaton.specs.Automaton.{Automaton, inBounds, inGuards}
+use Rattle.automaton.specs.Automaton.{Automaton, inBounds}
 use Rattle.automaton.specs.Priced.{Priced, free}
 use Rattle.automaton.specs.Nodes.{Node, startNode}
 use Rattle.automaton.specs.Steps.{step, moveStep}

@@ -1,6 +1,6 @@
 -- A potential that falls by at most a weight, alone and in sums.
-use mathlib.Core.Path.{_≡_, refl, sym, ap, ap₂, _∙_, subst}
-use Prim.Native.Nat.{ℕ, zero, suc, _+_, _≤_, _<_}
+use mathlib.Core.Path.{_≡_, refl, ap, ap₂, _∙_, subst}
+use Prim.Native.Nat.{ℕ, zero, suc, _<_}
 use native.Mathlib.Omega.{arith}
 use lib.IntN.{ℤ, pos, _+ℤ_, _*ℤ_, zero-*ℤ, *ℤ-zero, +ℤ-idl, +ℤ-comm, +ℤ-assoc}
 use lib.Signed.{_≤ℤ_}

@@ -22,13 +22,15 @@ use Rattle.automaton.proofs.Largest.{occurs-le, le-largest, largest-clo
 
 pub closed-of-used : (ks : List ℕ) → usesEachRank ks ≡ true → closeUp ks ≡ ks
 unfolding closeUp
-closed-of-used ks e = map-same (rank ks) ks (record { at = λ k m. omega (
-  arith,
-  rank-grows ks 0 k (omega arith),
-  rank-zero ks,
-  rank-grows ks k (largest ks) (occurs-le k ks m),
-  eqb-true (rank ks (largest ks)) (largest ks) e,
-) })
+closed-of-used ks e = map-same (rank ks) ks (record {
+  at = λ k m. omega (
+    arith,
+    rank-grows ks 0 k (omega arith),
+    rank-zero ks,
+    rank-grows ks k (largest ks) (occurs-le k ks m),
+    eqb-true (rank ks (largest ks)) (largest ks) e,
+  );
+})
 
 pub used-of-closed : (ks : List ℕ) → closeUp ks ≡ ks → usesEachRank ks ≡ true
 used-of-closed ks e = eq-eqb (rank ks (largest ks)) (largest ks) (sym (largest-close ks (largest ks) (le-largest ks)) ∙ ap largest e)

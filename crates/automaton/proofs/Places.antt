@@ -1,13 +1,13 @@
 -- The places of a run: where place j is there, so is each place i before it, the members between are a run from the one to the other,
 -- and what they cost and earn is what place j has more. So a run that comes back has its loop, and `NoLoopBelow` speaks of it.
-use mathlib.Core.Path.{_≡_, refl, sym, ap, _∙_}
+use mathlib.Core.Path.{_≡_, sym, ap, _∙_}
 use mathlib.Core.List.{List, _++_}
-use mathlib.Core.Option.{Option, some}
+use mathlib.Core.Option.{some}
 use Prim.Native.Nat.{ℕ, _≤_}
 use lib.ListN.{take, take-append-drop}
 use lib.Seq.{slice, take-take}
 use Rattle.automaton.specs.Automaton.{Automaton}
-use Rattle.automaton.specs.Priced.{Priced, free, joined, chain}
+use Rattle.automaton.specs.Priced.{Priced, free, joined}
 use Rattle.automaton.specs.Runs.{State, Member, takes, run, startState}
 use Rattle.automaton.specs.Loops.{place, Loop}
 use Rattle.automaton.proofs.Chains.{Split, then-split, chain-append, chain-nil}

@@ -1,16 +1,16 @@
 -- Laws of ranks and of closing up, also after a reset.
 use mathlib.Core.Path.{_≡_, refl, sym, ap, ap₂, _∙_}
-use mathlib.Core.Bool.{Bool, true, false, cond, _||_, false≢true}
+use mathlib.Core.Bool.{Bool, true, false, cond, false≢true}
 use mathlib.Core.List.{List, [], _∷_, map, map-map}
 use Prim.Native.Nat.{ℕ, zero, suc, _+_, _≤_, _<_}
 use native.Mathlib.Omega.{arith}
-use borrow.Author.Tests.{eq-eqb, ne-eqb, eqb-true, eqb-false}
+use borrow.Author.Tests.{eq-eqb, ne-eqb}
 use lib.Dec.{eqb, eqb·suc-suc}
 use lib.ListN.{length, length-map}
 use Rattle.automaton.specs.Tests.{oneMoreIf, occurs}
 use Rattle.automaton.specs.Ranks.{rank, closeUp, mask}
 use Rattle.automaton.proofs.Tests.{by-bool, by-order, clash}
-use Rattle.automaton.proofs.Lists.{occurs-here, occurs-tail, occurs-cases, occurs-not, occurs-inj, Each, each-all, map-cong}
+use Rattle.automaton.proofs.Lists.{occurs-here, occurs-tail, occurs-cases, occurs-not, occurs-inj, each-all, map-cong}
 
 pub rank-zero : (xs : List ℕ) → rank xs 0 ≡ 0
 unfolding rank

@@ -1,5 +1,5 @@
 -- The least ratio: what shows it, and that there is only one. For any steps by code.
-use mathlib.Core.Path.{_≡_, refl, sym, ap, _∙_, subst, subst₂}
+use mathlib.Core.Path.{_≡_, ap, _∙_, subst₂}
 use mathlib.Core.Option.{Option}
 use Prim.Native.Nat.{ℕ, _<_}
 use native.Mathlib.Omega.{arith}

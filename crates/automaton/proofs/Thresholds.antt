@@ -1,8 +1,8 @@
 -- The nodes of a state in nths, one for each threshold t < n; bounds, guards and edges agree.
-use mathlib.Core.Path.{_≡_, refl, sym, ap, ap₂, _∙_, subst}
+use mathlib.Core.Path.{_≡_, refl, sym, ap, ap₂, _∙_}
 use mathlib.Core.Bool.{Bool, true, false, _&&_, _||_}
-use mathlib.Core.List.{List, [], _∷_, map, map-map, zipWith}
-use mathlib.Core.Option.{Option, some}
+use mathlib.Core.List.{List, map, map-map, zipWith}
+use mathlib.Core.Option.{some}
 use Prim.Native.Nat.{ℕ, zero, suc, _/_, _%_, _<_}
 use native.Mathlib.Nat.{zero-mod, zero-div}
 use native.Mathlib.Omega.{arith}
@@ -17,7 +17,7 @@ use Rattle.automaton.specs.Nodes.{Region, Node, intervals, inside, start
 use Rattle.automaton.specs.Steps.{edgeTo, edgeAllowed, edgeStep}
 use Rattle.automaton.specs.Runs.{State, within, after, mayTake, startState}
 use Rattle.automaton.proofs.Tests.{only-yes}
-use Rattle.automaton.proofs.Lists.{occurs-map, Each, every-cong, zip-map, map-zeros}
+use Rattle.automaton.proofs.Lists.{occurs-map, every-cong, zip-map, map-zeros}
 use Rattle.automaton.proofs.Ranks.{rank-zero, rank-out, rank-whole, map-mask, rank-mask, close-mask}
 use Rattle.automaton.proofs.Bounds.{upper-agrees, lower-agrees, present-agrees}
 
@@ -61,8 +61,10 @@ unfolding inGuards
 guards-agree A n e vs p = ap (inGuards lowerHolds upperHolds A e) (intervals-of n vs)
     ∙ every-cong (λ j x. lowerHolds (A .lower e j) x && ifPresent upperHolds (A .upper e j) x)
     (λ j v. lowerHoldsNths n (A .lower e j) v && ifPresent (upperHoldsNths n) (A .upper e j) v) (intervalOf n vs) vs
-    (record { at = λ v m j. (let k = rank (fractions n vs) (v % n) in let w = whole-class n vs v m in
-        ap₂ _&&_ (lower-agrees n v k p w (A .lower e j)) (present-agrees n v k p w (A .upper e j))) })
+    (record {
+      at = λ v m j. (let k = rank (fractions n vs) (v % n) in let w = whole-class n vs v m in
+          ap₂ _&&_ (lower-agrees n v k p w (A .lower e j)) (present-agrees n v k p w (A .upper e j)));
+    })
 
 pub inside-agrees : (A : Automaton) (n : ℕ) (s : State) (t : ℕ) → 0 < n → inside A (nodeAt n s t) ≡ within A n s
 unfolding nodeAt

@@ -1,11 +1,11 @@
 -- Laws of walks and reachable nodes, for any steps by code.
-use mathlib.Core.Path.{_≡_, refl, sym, ap, _∙_, subst}
+use mathlib.Core.Path.{_≡_, ap, _∙_}
 use mathlib.Core.List.{List, [], _∷_, _++_}
 use mathlib.Core.Option.{Option, some}
 use Prim.Native.Nat.{ℕ, _+_}
 use native.Mathlib.Nat.{add-zero}
 use lib.IntN.{ℤ, pos, _+ℤ_, +ℤ-idr}
-use Rattle.automaton.specs.Priced.{Priced, free, joined, andThen, chain}
+use Rattle.automaton.specs.Priced.{Priced, andThen, chain}
 use Rattle.automaton.specs.Walks.{Walk, Reachable}
 use Rattle.automaton.proofs.Chains.{chain-holds, chain-append, chain-one, chain-nil}
 
@@ -14,8 +14,10 @@ module _ {S : Type 0} (step : S → ℕ → Option (Priced S)) where
   walk-nil u = record { walks = chain-nil step u }
 
   pub walk-one : (u : S) (code : ℕ) (x : Priced S) → step u code ≡ some x → Walk step u (code ∷ []) (x .to) (x .cost) (x .reward)
-  walk-one u code x e = record { walks = chain-one step u code x e
-      ∙ ap some (λ i. record { to = x .to; cost = +ℤ-idr (x .cost) i; reward = add-zero (x .reward) i }) }
+  walk-one u code x e = record {
+    walks = chain-one step u code x e
+        ∙ ap some (λ i. record { to = x .to; cost = +ℤ-idr (x .cost) i; reward = add-zero (x .reward) i });
+  }
 
   pub walk-append : {u v w : S} {k l : List ℕ} {c d : ℤ} {r t : ℕ} → Walk step u k v c r → Walk step v l w d t → Walk step u (k ++ l) w (c +ℤ d) (r + t)
   walk-append {u} {v} {w} {k} {l} {c} {d} {r} {t} a b = record {

@@ -4,7 +4,7 @@ use mathlib.Core.List.{List, map}
 use mathlib.Core.Option.{Option}
 use Prim.Native.Nat.{ℕ, _+_, _*_}
 use lib.Dec.{ltb, eqb}
-use lib.IntN.{ℤ, pos, _*ℤ_}
+use lib.IntN.{pos, _*ℤ_}
 use lib.ListN.{replicate}
 use Rattle.automaton.specs.Tests.{only}
 use Rattle.automaton.specs.Bounds.{upperHoldsNths, lowerHoldsNths}
