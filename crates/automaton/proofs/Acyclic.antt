@@ -9,7 +9,7 @@ use lib.ListN.{length}
 use lib.Signed.{_<ℤ_}
 use Rattle.integers.proofs.Parts.{up, dn, lt-parts}
 use Rattle.automaton.specs.Priced.{Priced, chain}
-use Rattle.automaton.specs.Walks.{Reachable, Cycle}
+use Rattle.automaton.specs.Walks.{Reachable, ReachableCycle}
 use Rattle.automaton.proofs.Chains.{some-inj, then-split}
 use Rattle.automaton.proofs.Walks.{reach-step}
 
@@ -38,5 +38,6 @@ module _ {S : Type 0} (step : S → ℕ → Option (Priced S)) (start : S) (kind
       let g = falls-along (s .first .to) l (s .second) (reach-step step start u code (s .first) h (s .took)) (s .went) (splits .right (s .first .reward) (s .second .reward) t) in
       omega (arith, lt-parts (ρ (s .first .to)) (ρ u) f, ap (λ (s : S). up (ρ s)) q, ap (λ (s : S). dn (ρ s)) q)
 
-  pub no-cycle : (c : ℤ) (r : ℕ) → kind r → Cycle step start c r → ⊥
-  no-cycle c r k o = omega (arith, falls-along (o .node) (o .codes) (record { to = o .node; cost = c; reward = r }) (o .reached) (o .back .walks) k, o .some-step)
+  pub no-cycle : (c : ℤ) (r : ℕ) → kind r → ReachableCycle step start c r → ⊥
+  no-cycle c r k o = let y = o .cycle in
+      omega (arith, falls-along (o .node) (y .codes) (record { to = o .node; cost = c; reward = r }) (o .reached) (y .back .walks) k, y .some-step)

@@ -4,8 +4,8 @@ use mathlib.Core.Path.{_≡_, sym, ap, _∙_}
 use mathlib.Core.List.{List, _++_}
 use mathlib.Core.Option.{some}
 use Prim.Native.Nat.{ℕ, _≤_}
-use lib.ListN.{take, take-append-drop}
-use lib.Seq.{slice, take-take}
+use lib.ListN.{length, take, take-append-drop}
+use lib.Seq.{slice, take-take, take-length}
 use Rattle.automaton.specs.Automaton.{Automaton}
 use Rattle.automaton.specs.Priced.{Priced, free, joined}
 use Rattle.automaton.specs.Runs.{State, Member, takes, run, startState}
@@ -54,3 +54,8 @@ comes-back A n members i j h a b ea eb same = (
       where
         some-of : {x y : Priced State} → some x ≡ some y → x ≡ y
         some-of e = cc
+
+-- a run has all its places
+pub run-places : (A : Automaton) (n : ℕ) (members : List Member) (x : Priced State) → run A n (startState A) members ≡ some x
+    → (i : ℕ) → i ≤ length members → (a : Priced State) × (place A n members i ≡ some a)
+run-places A n members x e i h = let s = places A n members i (length members) h x (ap (run A n (startState A)) (take-length members) ∙ e) in (s .first, s .took)

@@ -8,7 +8,7 @@ use lib.IntN.{ℤ, pos, _+ℤ_, _*ℤ_}
 use lib.Signed.{_≤ℤ_}
 use Rattle.integers.proofs.Parts.{add-parts, ext, le-of, le-parts}
 use Rattle.automaton.specs.Priced.{Priced}
-use Rattle.automaton.specs.Walks.{Walk, Reachable, Cycle}
+use Rattle.automaton.specs.Walks.{Walk, Reachable, ReachableCycle}
 use Rattle.automaton.specs.Weights.{weight, Feasible, Potential}
 use Rattle.automaton.proofs.Walks.{walk-nil, walk-one, walk-append, walk-holds, reach-start, reach-step}
 use Rattle.automaton.proofs.Weights.{weight-zero, weight-+, weight-ratio}
@@ -37,11 +37,11 @@ module _ {S : Type 0} (step : S → ℕ → Option (Priced S)) (start : S) where
         leads-step w
 
     -- every reachable cycle weighs at least 0
-    pub cycle-weighs : (c : ℤ) (r : ℕ) → Cycle step start c r → pos 0 ≤ℤ weight p q c r
-    cycle-weighs c r o = falls-loop (leads-walk (o .back) .falls (o .reached))
+    pub cycle-weighs : (c : ℤ) (r : ℕ) → ReachableCycle step start c r → pos 0 ≤ℤ weight p q c r
+    cycle-weighs c r o = falls-loop (leads-walk (o .cycle .back) .falls (o .reached))
 
     -- so none is below p/q
-    pub none-below : (c : ℤ) (r : ℕ) → Cycle step start c r → (p *ℤ pos r) ≤ℤ (pos q *ℤ c)
+    pub none-below : (c : ℤ) (r : ℕ) → ReachableCycle step start c r → (p *ℤ pos r) ≤ℤ (pos q *ℤ c)
     none-below c r o = weight-ratio p q c r .0 (cycle-weighs c r o)
 
     -- no walk from the start weighs less than the potential where it ends

@@ -10,14 +10,14 @@ use Rattle.integers.proofs.Parts.{ext, le-parts}
 use Rattle.integers.proofs.Products.{times-swap, times-mono, times-cancel}
 use Rattle.integers.proofs.Unique.{lowest-unique}
 use Rattle.automaton.specs.Priced.{Priced}
-use Rattle.automaton.specs.Walks.{Cycle}
+use Rattle.automaton.specs.Walks.{ReachableCycle}
 use Rattle.automaton.specs.Weights.{Feasible}
 use Rattle.automaton.specs.Ratios.{LeastRatio}
 use Rattle.automaton.proofs.Potentials.{none-below}
 
 module _ {S : Type 0} (step : S → ℕ → Option (Priced S)) (start : S) where
   -- a feasible potential and a cycle that attains the ratio
-  pub least-ratio : (p : ℤ) (q : ℕ) (π : S → ℤ) → Feasible step start p q π → Lowest p q → (c : ℤ) (r : ℕ) → Cycle step start c r → 0 < r
+  pub least-ratio : (p : ℤ) (q : ℕ) (π : S → ℤ) → Feasible step start p q π → Lowest p q → (c : ℤ) (r : ℕ) → ReachableCycle step start c r → 0 < r
       → pos q *ℤ c ≡ p *ℤ pos r → LeastRatio step start p q
   least-ratio p q π ok low c r o earns e = record {
     lowest = low;

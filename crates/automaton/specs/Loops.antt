@@ -12,13 +12,13 @@ use Rattle.automaton.specs.Priced.{Priced}
 use Rattle.automaton.specs.Runs.{State, Member, run, startState}
 
 -- "The places of a run are the start and the state after each member": place i is the one after the first i members, with what they cost and earn.
--- There is none where these members are no run.
+-- There is none where these members are no run, and past the end of the list it is the last place again.
 abbrev pub place : Automaton → ℕ → List Member → ℕ → Option (Priced State)
 place A n members i = run A n (startState A) (take i members)
 
 -- "Where two places have equal location and clock values, the run comes back, and the members between them are a loop."
--- Its cost c and reward r, times n, are taken "over its own members". Places.antt proves: where place j is there, so is each place i before it,
--- the members between are a run from one to the other, and what they cost and earn is what place j has more than place i.
+-- Its cost c and reward r, times n, are taken "over its own members". It is proved that a run has all its places, that where place j is there
+-- so is each place i before it, that the members between are a run from the one to the other, and that they cost and earn what place j has more.
 pub record Loop (A : Automaton) (n : ℕ) (members : List Member) (c : ℤ) (r : ℕ) : Type 0 where
   pub i : ℕ
   pub j : ℕ

@@ -19,7 +19,7 @@ pub record Region : Type 0 where
 abbrev pub intervals : Region → List ℕ
 intervals R = zipWith interval (R .whole) (R .class)
 
--- each rank from 1 to g is used: that many of them occur
+-- each rank is used: of the values 1 to g, g occur
 abbrev pub usesEachRank : List ℕ → Bool
 usesEachRank ks = eqb (rank ks (largest ks)) (largest ks)
 
@@ -36,7 +36,7 @@ inside A u = inBounds upperHolds A (u .location) (intervals (u .region))
 abbrev pub largestClass : Node → ℕ
 largestClass u = largest (u .region .class)
 
--- The corner point: "Corner i (0 to g) gives a clock h if its class is at most i, else h + 1." No step reads it; the laws of Corners.antt say what steps do to it.
+-- The corner point: "Corner i (0 to g) gives a clock h if its class is at most i, else h + 1." No step reads it; it is proved what each does to it.
 abbrev pub point : Node → List ℕ
 point u = zipWith (λ h k. oneMoreIf (ltb (u .corner) k) h) (u .region .whole) (u .region .class)
 
@@ -49,7 +49,8 @@ isNode A u = ltb (u .location) (A .locations) && (eqb (length (u .region .whole)
 unfoldable pub startNode : Automaton → Node
 startNode A = record { location = 0; region = record { whole = replicate (A .clocks) 0; class = replicate (A .clocks) 0 }; corner = 0 }
 
--- What questions 4, 9 and 11 make sure of: edges by codes below 32, targets that are locations, and location 0's bounds "admit all clocks at 0".
+-- What questions 4, 9 and 11 make sure of: a location, edges by codes 0 to 31, targets that are locations, and location 0's bounds
+-- "admit all clocks at 0".
 pub record Sound (A : Automaton) : Type 0 where
   pub some-location : 0 < A .locations
   pub few-edges : A .edges ≤ 32

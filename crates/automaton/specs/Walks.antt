@@ -12,18 +12,22 @@ module _ {S : Type 0} (step : S → ℕ → Option (Priced S)) where
   pub record Walk (u : S) (codes : List ℕ) (v : S) (c : ℤ) (r : ℕ) : Type 0 where
     pub walks : chain step u codes ≡ some (record { to = v; cost = c; reward = r })
 
+  -- "A cycle is a walk of at least one step back to its node." This one costs c and earns r.
+  pub record Cycle (u : S) (c : ℤ) (r : ℕ) : Type 0 where
+    pub codes : List ℕ
+    pub some-step : 0 < length codes
+    pub back : Walk u codes u c r
+
   module _ (start : S) where
-    -- some walk from the start leads to u
+    -- some list of step codes leads from the start to u
     pub record Reachable (u : S) : Type 0 where
       pub codes : List ℕ
       pub cost : ℤ
       pub reward : ℕ
       pub walk : Walk start codes u cost reward
 
-    -- A reachable cycle that costs c and earns r: "A cycle is a walk of at least one step back to its node."
-    pub record Cycle (c : ℤ) (r : ℕ) : Type 0 where
+    -- a cycle of a reachable node
+    pub record ReachableCycle (c : ℤ) (r : ℕ) : Type 0 where
       pub node : S
       pub reached : Reachable node
-      pub codes : List ℕ
-      pub some-step : 0 < length codes
-      pub back : Walk node codes node c r
+      pub cycle : Cycle node c r

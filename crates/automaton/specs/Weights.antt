@@ -15,7 +15,8 @@ weight p q c r = pos q *ℤ c -ℤ p *ℤ pos r
 module _ {S : Type 0} (step : S → ℕ → Option (Priced S)) (start : S) (p : ℤ) (q : ℕ) where
   -- π is feasible: no step from a reachable node leads to a potential above the node's plus the step's weight
   pub record Feasible (π : S → ℤ) : Type 0 where
-    pub holds : (u : S) (code : ℕ) (v : Priced S) → Reachable step start u → step u code ≡ some v → π (v .to) ≤ℤ (π u +ℤ weight p q (v .cost) (v .reward))
+    pub holds : (u : S) (code : ℕ) (v : Priced S) → Reachable step start u → step u code ≡ some v
+        → π (v .to) ≤ℤ (π u +ℤ weight p q (v .cost) (v .reward))
 
   -- "a potential is the least sum over walks from the start": z is that of u
   pub record Potential (u : S) (z : ℤ) : Type 0 where
