@@ -29,13 +29,15 @@ module _ {S : Type 0} (step : S → ℕ → Option (Priced S)) (start : S) (kind
   falls-along : (u : S) (l : List ℕ) (x : Priced S) → Reachable step start u → chain step u l ≡ some x → kind (x .reward)
       → up (ρ (x .to)) + dn (ρ u) + length l ≤ up (ρ u) + dn (ρ (x .to))
   unfolding chain
-  falls-along u [] x h e k = let q : u ≡ x .to = ap (λ (v : Priced S). v .to) (some-inj e) in omega (arith, ap (λ (s : S). up (ρ s)) q, ap (λ (s : S). dn (ρ s)) q)
+  falls-along u [] x h e k =
+      let q : u ≡ x .to = ap (λ (v : Priced S). v .to) (some-inj e) in omega (arith, ap (λ (s : S). up (ρ s)) q, ap (λ (s : S). dn (ρ s)) q)
   falls-along u (code ∷ l) x h e k =
       let s = then-split (step u code) (λ t. chain step t l) x e in
       let t = subst kind (sym (ap (λ (v : Priced S). v .reward) (s .total))) k in
       let q : s .second .to ≡ x .to = ap (λ (v : Priced S). v .to) (s .total) in
       let f = falls u code (s .first) h (s .took) (splits .left (s .first .reward) (s .second .reward) t) in
-      let g = falls-along (s .first .to) l (s .second) (reach-step step start u code (s .first) h (s .took)) (s .went) (splits .right (s .first .reward) (s .second .reward) t) in
+      let g = falls-along (s .first .to) l (s .second) (reach-step step start u code (s .first) h (s .took)) (s .went)
+      (splits .right (s .first .reward) (s .second .reward) t) in
       omega (arith, lt-parts (ρ (s .first .to)) (ρ u) f, ap (λ (s : S). up (ρ s)) q, ap (λ (s : S). dn (ρ s)) q)
 
   pub no-cycle : (c : ℤ) (r : ℕ) → kind r → ReachableCycle step start c r → ⊥

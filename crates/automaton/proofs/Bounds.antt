@@ -15,16 +15,10 @@ use Rattle.automaton.proofs.Tests.{by-bool, by-order, same-test}
 
 pub upper-nths : (n u v : ℕ) → upperHoldsNths n u v ≡ ltb v (u / 2 * n + u % 2)
 upper-nths n u v = by-bool (eqb (u % 2) 0)
-    (λ e. ap (λ (b : Bool). cond b (ltb v (u / 2 * n)) (leb v (u / 2 * n))) e ∙ even (eqb-true (u % 2) 0 e))
-    (λ e. ap (λ (b : Bool). cond b (ltb v (u / 2 * n)) (leb v (u / 2 * n))) e ∙ odd (eqb-false (u % 2) 0 e))
-  where
-    even : u % 2 ≡ 0 → ltb v (u / 2 * n) ≡ ltb v (u / 2 * n + u % 2)
-    even e = ap (ltb v) (omega arith)
-
-    odd : (u % 2 ≡ 0 → ⊥) → leb v (u / 2 * n) ≡ ltb v (u / 2 * n + u % 2)
-    odd e = same-test (leb v (u / 2 * n)) (ltb v (u / 2 * n + u % 2))
-        (λ t. lt-ltb v (u / 2 * n + u % 2) (omega (arith, leb-true v (u / 2 * n) t)))
-        (λ t. le-leb v (u / 2 * n) (omega (arith, ltb-true v (u / 2 * n + u % 2) t)))
+    (λ e. let z = eqb-true (u % 2) 0 e in rw e (ap (ltb v) (omega arith)))
+    (λ e. let z : (u % 2 ≡ 0 → ⊥) = eqb-false (u % 2) 0 e in rw e (same-test (leb v (u / 2 * n)) (ltb v (u / 2 * n + u % 2))
+    (λ t. lt-ltb v (u / 2 * n + u % 2) (omega (arith, leb-true v (u / 2 * n) t)))
+    (λ t. le-leb v (u / 2 * n) (omega (arith, ltb-true v (u / 2 * n + u % 2) t)))))
 
 -- a lower byte holds just where an upper byte of the same number does not
 opposite : (n u v : ℕ) → lowerHoldsNths n u v ≡ not (upperHoldsNths n u v)

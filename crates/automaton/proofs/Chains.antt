@@ -61,7 +61,8 @@ module _ {S M : Type 0} (f : S → M → Option (Priced S)) where
       again a b none = refl
       again a b (some c) = ap some (sym (joined-assoc a b c))
 
-      shift : (a : Priced S) (r : Option (Priced S)) → Option·map (joined a) (andThen r (λ t. chain f t ys)) ≡ andThen (Option·map (joined a) r) (λ t. chain f t ys)
+      shift : (a : Priced S) (r : Option (Priced S))
+          → Option·map (joined a) (andThen r (λ t. chain f t ys)) ≡ andThen (Option·map (joined a) r) (λ t. chain f t ys)
       shift a none = refl
       shift a (some b) = again a b (chain f (b .to) ys)
 

@@ -10,7 +10,7 @@ use Rattle.automaton.specs.Tests.{only}
 use Rattle.automaton.specs.Automaton.{Automaton}
 use Rattle.automaton.specs.Priced.{Priced, free}
 use Rattle.automaton.specs.Nodes.{Node, inside, largestClass}
-use Rattle.automaton.specs.Steps.{edgeStep, someWhole, unitTo, unitStep, riseTo, carryTo, moveStep, step}
+use Rattle.automaton.specs.Steps.{edgeTo, edgeAllowed, edgeStep, someWhole, unitTo, unitStep, riseTo, carryTo, moveStep, step}
 use Rattle.automaton.proofs.Tests.{by-bool, clash, &&-left, &&-right, &&-intro, only-test, only-value, only-yes}
 
 pub step-edge : (A : Automaton) (u : Node) (e : ℕ) → e ≤ 31 → step A u e ≡ edgeStep A u e
@@ -40,18 +40,20 @@ step-cases {X = X} A u code x e f g h = go (leb code 31) (eqb code 32) (eqb code
 
 -- ---- when a step is allowed, and where it leads
 
-module _ (A : Automaton) (u v : Node) where
-  move-by : (b : Bool) → someWhole u ≡ b
-      → moveStep A u ≡ cond b (only (inside A (riseTo u)) (free (riseTo u))) (only (ltb (u .corner) (largestClass u) && inside A (carryTo u)) (free (carryTo u)))
-  unfolding moveStep
-  move-by b e = ap (λ (b : Bool). cond b (only (inside A (riseTo u)) (free (riseTo u)))
-      (only (ltb (u .corner) (largestClass u) && inside A (carryTo u)) (free (carryTo u)))) e
+-- a move, by whether some clock has class 0
+move-by : (A : Automaton) (u : Node) (b : Bool) → someWhole u ≡ b
+    → moveStep A u ≡ cond b (only (inside A (riseTo u)) (free (riseTo u)))
+    (only (ltb (u .corner) (largestClass u) && inside A (carryTo u)) (free (carryTo u)))
+unfolding moveStep
+move-by A u b e = ap (λ (b : Bool). cond b (only (inside A (riseTo u)) (free (riseTo u)))
+    (only (ltb (u .corner) (largestClass u) && inside A (carryTo u)) (free (carryTo u)))) e
 
+module _ (A : Automaton) (u v : Node) where
   pub rises : someWhole u ≡ true → riseTo u ≡ v → inside A v ≡ true → moveStep A u ≡ some (free v)
-  rises e q h = move-by true e ∙ only-yes (ap (inside A) q ∙ h) (ap free q)
+  rises e q h = move-by A u true e ∙ only-yes (ap (inside A) q ∙ h) (ap free q)
 
   pub carries : someWhole u ≡ false → u .corner < largestClass u → carryTo u ≡ v → inside A v ≡ true → moveStep A u ≡ some (free v)
-  carries e l q h = move-by false e ∙ only-yes (&&-intro (lt-ltb (u .corner) (largestClass u) l) (ap (inside A) q ∙ h)) (ap free q)
+  carries e l q h = move-by A u false e ∙ only-yes (&&-intro (lt-ltb (u .corner) (largestClass u) l) (ap (inside A) q ∙ h)) (ap free q)
 
   pub turns : someWhole u ≡ false → u .corner ≡ largestClass u → unitTo u ≡ v
       → unitStep A u ≡ some (record { to = v; cost = A .costRate (u .location); reward = A .rewardRate (u .location) })
@@ -59,27 +61,35 @@ module _ (A : Automaton) (u v : Node) where
   turns e l q = only-yes (&&-intro (ap not e) (eq-eqb (u .corner) (largestClass u) l))
       (λ i. record { to = q i; cost = A .costRate (u .location); reward = A .rewardRate (u .location) })
 
--- what was needed of a move
-pub move-cases {ℓ} : {X : Type ℓ} (A : Automaton) (u : Node) (x : Priced Node) → moveStep A u ≡ some x
-    → (someWhole u ≡ true → inside A (riseTo u) ≡ true → free (riseTo u) ≡ x → X)
-    → (someWhole u ≡ false → u .corner < largestClass u → inside A (carryTo u) ≡ true → free (carryTo u) ≡ x → X) → X
-move-cases A u x h f g = by-bool (someWhole u)
-    (λ m. let k = sym (move-by A u u true m) ∙ h in f m (only-test (inside A (riseTo u)) (free (riseTo u)) k) (only-value (inside A (riseTo u)) (free (riseTo u)) k))
-    (λ m. let k = sym (move-by A u u false m) ∙ h in let low = ltb (u .corner) (largestClass u) in
-    let t = only-test (low && inside A (carryTo u)) (free (carryTo u)) k in
-    g m (ltb-true (u .corner) (largestClass u) (&&-left low (inside A (carryTo u)) t)) (&&-right low (inside A (carryTo u)) t)
-    (only-value (low && inside A (carryTo u)) (free (carryTo u)) k))
+-- what a step that was taken needed, and what came of it
+module _ (A : Automaton) (u : Node) (x : Priced Node) where
+  pub edge-needs : (e : ℕ) → edgeStep A u e ≡ some x
+      → (edgeAllowed A u e ≡ true) × (x ≡ record { to = edgeTo A u e; cost = A .cost e; reward = A .reward e })
+  unfolding edgeStep
+  edge-needs e h = let y : Priced Node = record { to = edgeTo A u e; cost = A .cost e; reward = A .reward e } in
+      (only-test (edgeAllowed A u e) y h, sym (only-value (edgeAllowed A u e) y h))
 
--- and of a unit of delay
-pub unit-needs : (A : Automaton) (u : Node) (x : Priced Node) → unitStep A u ≡ some x → (someWhole u ≡ false) × (u .corner ≡ largestClass u) × (x .to ≡ unitTo u)
-unfolding unitStep
-unit-needs A u x h = let low = not (someWhole u) in let last = eqb (u .corner) (largestClass u) in
-    let arc : Priced Node = record { to = unitTo u; cost = A .costRate (u .location); reward = A .rewardRate (u .location) } in
-    let t = only-test (low && last) arc h in (
-      not-true (someWhole u) (&&-left low last t),
-      eqb-true (u .corner) (largestClass u) (&&-right low last t),
-      ap (λ (y : Priced Node). y .to) (sym (only-value (low && last) arc h)),
-    )
+  pub unit-needs : unitStep A u ≡ some x → (someWhole u ≡ false) × (u .corner ≡ largestClass u)
+      × (x ≡ record { to = unitTo u; cost = A .costRate (u .location); reward = A .rewardRate (u .location) })
+  unfolding unitStep
+  unit-needs h = let low = not (someWhole u) in let last = eqb (u .corner) (largestClass u) in
+      let y : Priced Node = record { to = unitTo u; cost = A .costRate (u .location); reward = A .rewardRate (u .location) } in
+      let t = only-test (low && last) y h in (
+        not-true (someWhole u) (&&-left low last t),
+        eqb-true (u .corner) (largestClass u) (&&-right low last t),
+        sym (only-value (low && last) y h),
+      )
+
+  pub move-cases {ℓ} : {X : Type ℓ} → moveStep A u ≡ some x
+      → (someWhole u ≡ true → inside A (riseTo u) ≡ true → x ≡ free (riseTo u) → X)
+      → (someWhole u ≡ false → u .corner < largestClass u → inside A (carryTo u) ≡ true → x ≡ free (carryTo u) → X) → X
+  move-cases h f g = by-bool (someWhole u)
+      (λ m. let k = sym (move-by A u true m) ∙ h in let t = inside A (riseTo u) in
+      f m (only-test t (free (riseTo u)) k) (sym (only-value t (free (riseTo u)) k)))
+      (λ m. let k = sym (move-by A u false m) ∙ h in let low = ltb (u .corner) (largestClass u) in
+      let t = only-test (low && inside A (carryTo u)) (free (carryTo u)) k in
+      g m (ltb-true (u .corner) (largestClass u) (&&-left low (inside A (carryTo u)) t)) (&&-right low (inside A (carryTo u)) t)
+      (sym (only-value (low && inside A (carryTo u)) (free (carryTo u)) k)))
 
 -- at most one of codes 32 and 33 is allowed at a node
 pub unit-or-move : (A : Automaton) (u : Node) (x y : Priced Node) → step A u 32 ≡ some x → step A u 33 ≡ some y → ⊥

@@ -28,7 +28,8 @@ module _ (A : Automaton) (few : A .edges ≤ 32) (p : ℤ) (q : ℕ) (π : Node 
   loop-weighs zero h members c r l = absurd (omega arith)
   loop-weighs (suc n) h members c r l = falls-loop
       (subst (λ (s : State). Falls (Φ π (suc n) (l .first .to)) (Φ π (suc n) s) (weight p q c r)) (sym (l .same))
-      (run-passes A p q π ok few n (l .first .to) (slice (l .i) (l .j) members) (record { to = l .last .to; cost = c; reward = r }) (l .between) .falls covered))
+      (run-passes A p q π ok few n (l .first .to) (slice (l .i) (l .j) members) (record { to = l .last .to; cost = c; reward = r }) (l .between)
+      .falls covered))
     where
       covered : Covered A (suc n) (l .first .to)
       covered = run-passes A p q π ok few n (startState A) (take (l .i) members) (l .first) (l .place-i) .covers (start-covered A (suc n))

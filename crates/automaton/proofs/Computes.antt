@@ -59,7 +59,8 @@ unfolding bench chain step edgeStep unitStep moveStep startNode inBounds inGuard
 bench-cycle = refl
 
 -- with lower byte 03, clock > 1, the edge is taken from corner 1 of the region between 1 and 2, at the same price
-bench-over-one : chain (step (bench 5 3)) (startNode (bench 5 3)) (33 ∷ 32 ∷ 33 ∷ 33 ∷ 0 ∷ []) ≡ some (record { to = startNode (bench 5 3); cost = pos 6; reward = 2 })
+bench-over-one : chain (step (bench 5 3)) (startNode (bench 5 3)) (33 ∷ 32 ∷ 33 ∷ 33 ∷ 0 ∷ [])
+    ≡ some (record { to = startNode (bench 5 3); cost = pos 6; reward = 2 })
 unfolding bench chain step edgeStep unitStep moveStep startNode inBounds inGuards every zipWith rank closeUp mask largest
 bench-over-one = refl
 

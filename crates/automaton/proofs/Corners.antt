@@ -13,12 +13,12 @@ use Rattle.automaton.specs.Ranks.{rank, closeUp, mask}
 use Rattle.automaton.specs.Automaton.{Automaton}
 use Rattle.automaton.specs.Priced.{Priced}
 use Rattle.automaton.specs.Nodes.{Node, largestClass, point}
-use Rattle.automaton.specs.Steps.{edgeTo, edgeAllowed, edgeStep, someWhole, unitTo, riseTo, carryWhole, carryClass, carryTo, step}
-use Rattle.automaton.proofs.Tests.{by-bool, by-order, clash, only-value}
+use Rattle.automaton.specs.Steps.{edgeTo, someWhole, unitTo, riseTo, carryWhole, carryClass, carryTo, step}
+use Rattle.automaton.proofs.Tests.{by-bool, by-order, clash}
 use Rattle.automaton.proofs.Lists.{occurs-tail, Each, each-head, each-tail, each-all}
 use Rattle.automaton.proofs.Ranks.{rank-mono, rank-lt}
 use Rattle.automaton.proofs.Largest.{occurs-le, carry-at, carry-off}
-use Rattle.automaton.proofs.Codes.{step-edge, step-unit, step-move, move-cases, unit-needs}
+use Rattle.automaton.proofs.Codes.{step-edge, step-unit, step-move, edge-needs, unit-needs, move-cases}
 
 -- ---- two lists side by side, clock by clock
 
@@ -30,7 +30,8 @@ zip-right f f' g (h ∷ hs) [] e = refl
 zip-right f f' g (h ∷ hs) (k ∷ ks) e = ap₂ _∷_ (each-head e h) (zip-right f f' g hs ks (each-tail e))
 
 -- both changed
-zip-both : (f f' c : ℕ → ℕ → ℕ) (g : ℕ → ℕ) (hs ks : List ℕ) → ((h k : ℕ) → f' (c h k) (g k) ≡ f h k) → zipWith f' (zipWith c hs ks) (map g ks) ≡ zipWith f hs ks
+zip-both : (f f' c : ℕ → ℕ → ℕ) (g : ℕ → ℕ) (hs ks : List ℕ) → ((h k : ℕ) → f' (c h k) (g k) ≡ f h k)
+    → zipWith f' (zipWith c hs ks) (map g ks) ≡ zipWith f hs ks
 unfolding zipWith
 zip-both f f' c g [] ks e = refl
 zip-both f f' c g (h ∷ hs) [] e = refl
@@ -84,7 +85,8 @@ pub unit-point : (u : Node) → someWhole u ≡ false → u .corner ≡ largestC
 unfolding at-corner
 unit-point u w l = zip-out (at-corner (u .corner)) (at-corner 0) suc (u .region .whole) (u .region .class) (record {
   at = λ k m h.
-      corner-by true 0 h k (lt-ltb 0 k (positive k m)) ∙ sym (ap suc (corner-by false (u .corner) h k (le-ltb (u .corner) k (omega (arith, occurs-le k (u .region .class) m)))));
+      corner-by true 0 h k (lt-ltb 0 k (positive k m))
+      ∙ sym (ap suc (corner-by false (u .corner) h k (le-ltb (u .corner) k (omega (arith, occurs-le k (u .region .class) m)))));
 })
   where
     positive : (k : ℕ) → occurs k (u .region .class) ≡ true → 0 < k
@@ -114,14 +116,13 @@ carry-point u l = zip-both (at-corner i) (at-corner i) (carryWhole g) (carryClas
 -- ---- by the codes
 
 pub edge-moves-point : (A : Automaton) (u : Node) (e : ℕ) (x : Priced Node) → e ≤ 31 → step A u e ≡ some x → point (x .to) ≡ mask (A .reset e) (point u)
-unfolding edgeStep
-edge-moves-point A u e x l s = ap (λ (y : Priced Node). point (y .to))
-    (sym (only-value (edgeAllowed A u e) (record { to = edgeTo A u e; cost = A .cost e; reward = A .reward e }) (sym (step-edge A u e l) ∙ s))) ∙ edge-point A u e
+edge-moves-point A u e x l s = ap (λ (y : Priced Node). point (y .to)) (edge-needs A u x e (sym (step-edge A u e l) ∙ s) .1) ∙ edge-point A u e
 
 pub unit-moves-point : (A : Automaton) (u : Node) (x : Priced Node) → step A u 32 ≡ some x → point (x .to) ≡ map suc (point u)
-unit-moves-point A u x s = let n = unit-needs A u x (sym (step-unit A u) ∙ s) in ap point (n .2) ∙ unit-point u (n .0) (n .1)
+unit-moves-point A u x s = let n = unit-needs A u x (sym (step-unit A u) ∙ s) in
+    ap (λ (y : Priced Node). point (y .to)) (n .2) ∙ unit-point u (n .0) (n .1)
 
 pub move-keeps-point : (A : Automaton) (u : Node) (x : Priced Node) → step A u 33 ≡ some x → point (x .to) ≡ point u
 move-keeps-point A u x s = move-cases A u x (sym (step-move A u) ∙ s)
-    (λ m i q. ap (λ (y : Priced Node). point (y .to)) (sym q) ∙ rise-point u)
-    (λ m l i q. ap (λ (y : Priced Node). point (y .to)) (sym q) ∙ carry-point u l)
+    (λ m i q. ap (λ (y : Priced Node). point (y .to)) q ∙ rise-point u)
+    (λ m l i q. ap (λ (y : Priced Node). point (y .to)) q ∙ carry-point u l)

@@ -71,7 +71,8 @@ sum-falls zero f g w h = rw (zero-*ℤ w) (falls-refl (pos 0))
 sum-falls (suc n) f g w h = rw (times-suc n w) (falls-plus (sum-falls n f g w (λ t k. h t (omega arith))) (h n (omega arith)))
 
 -- each to the next place at no weight, and the last to the first at the weight w
-pub sum-turns : (n : ℕ) (f g : ℕ → ℤ) (w : ℤ) → ((t : ℕ) → t < n → Falls (f t) (g (suc t)) (pos 0)) → Falls (f n) (g 0) w → Falls (sum (suc n) f) (sum (suc n) g) w
+pub sum-turns : (n : ℕ) (f g : ℕ → ℤ) (w : ℤ) → ((t : ℕ) → t < n → Falls (f t) (g (suc t)) (pos 0)) → Falls (f n) (g 0) w
+    → Falls (sum (suc n) f) (sum (suc n) g) w
 unfolding sum
 sum-turns n f g w h k = rw (sum-first n g, +ℤ-comm (g 0) (sum n (λ t. g (suc t))))
     (subst (Falls (sum n f +ℤ f n) (sum n (λ t. g (suc t)) +ℤ g 0)) (ap (λ (z : ℤ). z +ℤ w) (*ℤ-zero (pos n)) ∙ +ℤ-idl w)

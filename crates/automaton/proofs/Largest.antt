@@ -57,7 +57,8 @@ largest-close f n h = largest-map (rank f) (rank-zero f) (rank-mono f) f ∙ sym
 
 -- a rank is at most the largest class
 pub rank-le-largest : (f : List ℕ) (t : ℕ) → rank f t ≤ largest (closeUp f)
-rank-le-largest f t = rw (largest-close f (max t (largest f)) (record { at = λ x m. omega (arith, occurs-le x f m) })) (rank-mono f t (max t (largest f)) (omega arith))
+rank-le-largest f t = rw (largest-close f (max t (largest f)) (record { at = λ x m. omega (arith, occurs-le x f m) }))
+    (rank-mono f t (max t (largest f)) (omega arith))
 
 -- ---- no rank is above the number of entries
 
@@ -109,7 +110,8 @@ close-carry n f h m p = map-map (rank (map (carryClass n) f)) (carryClass n) f
   where
     one : (x : ℕ) → occurs x f ≡ true → rank (map (carryClass n) f) (carryClass n x) ≡ carryClass (rank f n) (rank f x)
     one x k = by-bool (eqb x n)
-        (λ e. let q = eqb-true x n e in ap (rank (map (carryClass n) f)) (carry-at n x q) ∙ rank-zero (map (carryClass n) f) ∙ sym (carry-at (rank f n) (rank f x) (ap (rank f) q)))
+        (λ e. let q = eqb-true x n e in ap (rank (map (carryClass n) f)) (carry-at n x q) ∙ rank-zero (map (carryClass n) f)
+        ∙ sym (carry-at (rank f n) (rank f x) (ap (rank f) q)))
         (λ e. let q : (x ≡ n → ⊥) = eqb-false x n e in let l = h .at x k in let s : x < n = omega arith in
         let b = rank-lt f x n s (occurs-tail n 0 f m) in
         ap (rank (map (carryClass n) f)) (carry-off n x q) ∙ rank-carry n f x s ∙ sym (carry-off (rank f n) (rank f x) (λ z. omega arith)))

@@ -58,4 +58,5 @@ comes-back A n members i j h a b ea eb same = (
 -- a run has all its places
 pub run-places : (A : Automaton) (n : ℕ) (members : List Member) (x : Priced State) → run A n (startState A) members ≡ some x
     → (i : ℕ) → i ≤ length members → (a : Priced State) × (place A n members i ≡ some a)
-run-places A n members x e i h = let s = places A n members i (length members) h x (ap (run A n (startState A)) (take-length members) ∙ e) in (s .first, s .took)
+run-places A n members x e i h =
+    let s = places A n members i (length members) h x (ap (run A n (startState A)) (take-length members) ∙ e) in (s .first, s .took)

@@ -49,7 +49,8 @@ module _ {S : Type 0} (step : S → ℕ → Option (Priced S)) (start : S) where
     walk-weighs z {u} w = falls-least (leads-walk w .falls (reach-start step start)) z (le-of (π u) (π u) (omega arith))
 
     -- a feasible potential that a walk attains is least
-    pub attained-least : π start ≡ pos 0 → {u : S} {l : List ℕ} {c : ℤ} {r : ℕ} → Walk step start l u c r → weight p q c r ≡ π u → Potential step start p q u (π u)
+    pub attained-least : π start ≡ pos 0 → {u : S} {l : List ℕ} {c : ℤ} {r : ℕ} → Walk step start l u c r → weight p q c r ≡ π u
+        → Potential step start p q u (π u)
     attained-least z {l = l} {c = c} {r = r} w e = record { codes = l; cost = c; reward = r; walk = w; attained = e; least = λ k d t o. walk-weighs z o }
 
   -- ---- and least potentials are feasible
@@ -64,12 +65,16 @@ module _ {S : Type 0} (step : S → ℕ → Option (Priced S)) (start : S) where
 
     module _ (π : S → ℤ) (least : (u : S) → Reachable step start u → Potential step start p q u (π u)) where
       -- a walk on from u
-      onward : (u v : S) (l : List ℕ) (c : ℤ) (r : ℕ) → Reachable step start u → Reachable step start v → Walk step u l v c r → π v ≤ℤ (π u +ℤ weight p q c r)
-      onward u v l c r h k w = let a = least u h in subst (λ (z : ℤ). π v ≤ℤ z) (weight-+ p q (a .cost) c (a .reward) r ∙ ap (λ (z : ℤ). z +ℤ weight p q c r) (a .attained))
+      onward : (u v : S) (l : List ℕ) (c : ℤ) (r : ℕ) → Reachable step start u → Reachable step start v → Walk step u l v c r
+          → π v ≤ℤ (π u +ℤ weight p q c r)
+      onward u v l c r h k w = let a = least u h in subst (λ (z : ℤ). π v ≤ℤ z)
+          (weight-+ p q (a .cost) c (a .reward) r ∙ ap (λ (z : ℤ). z +ℤ weight p q c r) (a .attained))
           (least v k .least (a .codes ++ l) (a .cost +ℤ c) (a .reward + r) (walk-append step (a .walk) w))
 
       pub least-feasible : Feasible step start p q π
-      least-feasible = record { holds = λ u code x h e. onward u (x .to) (code ∷ []) (x .cost) (x .reward) h (reach-step step start u code x h e) (walk-one step u code x e) }
+      least-feasible = record {
+        holds = λ u code x h e. onward u (x .to) (code ∷ []) (x .cost) (x .reward) h (reach-step step start u code x h e) (walk-one step u code x e);
+      }
 
       pub least-start : π start ≡ pos 0
       least-start = let h = reach-start step start in let o = least start h in ext (π start) (pos 0) (omega (

@@ -14,13 +14,13 @@ use Rattle.automaton.specs.Ranks.{rank, closeUp, mask, largest}
 use Rattle.automaton.specs.Automaton.{Automaton, inGuards}
 use Rattle.automaton.specs.Priced.{Priced}
 use Rattle.automaton.specs.Nodes.{Node, intervals, inside, largestClass, isNode, startNode, Sound}
-use Rattle.automaton.specs.Steps.{edgeTo, edgeAllowed, edgeStep, someWhole, unitTo, riseTo, carryWhole, carryClass, carryTo, step}
+use Rattle.automaton.specs.Steps.{edgeTo, edgeAllowed, someWhole, unitTo, riseTo, carryWhole, carryClass, carryTo, step}
 use Rattle.automaton.specs.Walks.{Reachable}
-use Rattle.automaton.proofs.Tests.{by-order, &&-left, &&-right, only-test, only-value}
+use Rattle.automaton.proofs.Tests.{by-order, &&-left, &&-right}
 use Rattle.automaton.proofs.Lists.{occurs-map, length-zip}
 use Rattle.automaton.proofs.Ranks.{rank-grows, length-close, length-mask, close-close, close-suc}
 use Rattle.automaton.proofs.Largest.{occurs-le, le-largest, largest-occurs, largest-close, rank-le-largest, rank-carry, close-carry}
-use Rattle.automaton.proofs.Codes.{step-cases, move-cases, unit-needs}
+use Rattle.automaton.proofs.Codes.{step-cases, edge-needs, unit-needs, move-cases}
 use Rattle.automaton.proofs.Thresholds.{close-zeros}
 use Rattle.automaton.proofs.Walks.{reach-holds}
 use Rattle.automaton.proofs.Nodes.{Proper, proper-of, of-proper}
@@ -57,12 +57,17 @@ module _ (A : Automaton) (u : Node) (h : Proper A u) where
     wholes = h .wholes;
     classes = length-map (u .region .class) suc ∙ h .classes;
     closed = close-suc (u .region .class) ∙ ap (λ (b : Bool). map (oneMoreIf b) (closeUp (u .region .class))) m ∙ ap (map suc) (h .closed);
-    cornered = omega (arith, h .cornered, occurs-le (suc (largestClass u)) (map suc (u .region .class)) (occurs-map suc (largestClass u) (u .region .class) there));
+    cornered = omega (
+      arith,
+      h .cornered,
+      occurs-le (suc (largestClass u)) (map suc (u .region .class)) (occurs-map suc (largestClass u) (u .region .class) there),
+    );
     bounded = i;
   }
     where
       there : occurs (largestClass u) (u .region .class) ≡ true
-      there = by-order 0 (largestClass u) (largest-occurs (u .region .class)) (λ e. subst (λ (k : ℕ). occurs k (u .region .class) ≡ true) e m) (λ k. absurd (omega arith))
+      there = by-order 0 (largestClass u) (largest-occurs (u .region .class))
+          (λ e. subst (λ (k : ℕ). occurs k (u .region .class) ≡ true) e m) (λ k. absurd (omega arith))
 
   carry-proper : u .corner < largestClass u → inside A (carryTo u) ≡ true → Proper A (carryTo u)
   carry-proper l i = record {
@@ -90,16 +95,12 @@ module _ (A : Automaton) (u : Node) (h : Proper A u) where
 
 step-proper : (A : Automaton) → Sound A → (u : Node) (code : ℕ) (x : Priced Node) → step A u code ≡ some x → Proper A u → Proper A (x .to)
 step-proper A o u code x e h = step-cases A u code x e
-    (λ l s. edge-case s)
-    (λ l s. subst (Proper A) (sym (unit-needs A u x s .2)) (unit-proper A u h))
-    (λ l s. move-cases A u x s
-    (λ m i q. subst (λ (y : Priced Node). Proper A (y .to)) q (rise-proper A u h m i))
-    (λ m k i q. subst (λ (y : Priced Node). Proper A (y .to)) q (carry-proper A u h k i)))
+    (λ l s. let n = edge-needs A u x code s in leads (n .1) (edge-proper A u h code o (n .0)))
+    (λ l s. leads (unit-needs A u x s .2) (unit-proper A u h))
+    (λ l s. move-cases A u x s (λ m i q. leads q (rise-proper A u h m i)) (λ m k i q. leads q (carry-proper A u h k i)))
   where
-    edge-case : edgeStep A u code ≡ some x → Proper A (x .to)
-    edge-case s = unfold edgeStep in
-        (let arc : Priced Node = record { to = edgeTo A u code; cost = A .cost code; reward = A .reward code } in
-        subst (λ (y : Priced Node). Proper A (y .to)) (only-value (edgeAllowed A u code) arc s) (edge-proper A u h code o (only-test (edgeAllowed A u code) arc s)))
+    leads : {y : Priced Node} → x ≡ y → Proper A (y .to) → Proper A (x .to)
+    leads q = subst (λ (z : Priced Node). Proper A (z .to)) (sym q)
 
 pub start-node-is : (A : Automaton) → Sound A → isNode A (startNode A) ≡ true
 start-node-is A o = of-proper A (startNode A) (start-proper A o)

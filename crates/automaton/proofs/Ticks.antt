@@ -153,7 +153,8 @@ module _ (A : Automaton) (n : ℕ) (p : 0 < n) (s : State) where
         below = rw g (rank-lt (risen n s) t n h (occurs-tail n 0 (risen n s) e))
 
         carried-class : map (carryClass (largest (closeUp (risen n s)))) (closeUp (risen n s)) ≡ closeUp (fractions n (map suc (s .values)))
-        carried-class = ap (λ (k : ℕ). map (carryClass k) (closeUp (risen n s))) g ∙ sym (close-carry n (risen n s) risen-le e p) ∙ ap closeUp (sym tick-fractions)
+        carried-class = ap (λ (k : ℕ). map (carryClass k) (closeUp (risen n s))) g
+            ∙ sym (close-carry n (risen n s) risen-le e p) ∙ ap closeUp (sym tick-fractions)
 
         φ : ℕ → ℕ → ℕ
         φ = carryWhole (largest (closeUp (risen n s)))
