@@ -6,7 +6,7 @@ use mathlib.Core.List.{List, [], _∷_, map, zipWith}
 use mathlib.Core.Option.{some}
 use Prim.Native.Nat.{ℕ, suc, _≤_, _<_}
 use native.Mathlib.Omega.{arith}
-use borrow.Author.Tests.{lt-ltb, le-ltb, ltb-true, ltb-false, eqb-true, eqb-false}
+use borrow.Author.Tests.{lt-ltb, le-ltb, eqb-true, eqb-false}
 use lib.Dec.{ltb, eqb, leb·suc-suc}
 use Rattle.automaton.specs.Tests.{oneMoreIf, occurs}
 use Rattle.automaton.specs.Ranks.{rank, closeUp, mask}
@@ -15,8 +15,8 @@ use Rattle.automaton.specs.Priced.{Priced}
 use Rattle.automaton.specs.Nodes.{Node, largestClass, point}
 use Rattle.automaton.specs.Steps.{edgeTo, someWhole, unitTo, riseTo, carryWhole, carryClass, carryTo, step}
 use Rattle.automaton.proofs.Tests.{by-bool, by-order, clash}
-use Rattle.automaton.proofs.Lists.{occurs-tail, Each, each-head, each-tail, each-all}
-use Rattle.automaton.proofs.Ranks.{rank-mono, rank-lt}
+use Rattle.automaton.proofs.Lists.{Each, each-head, each-tail, each-all}
+use Rattle.automaton.proofs.Ranks.{rank-ltb}
 use Rattle.automaton.proofs.Largest.{occurs-le, carry-at, carry-off}
 use Rattle.automaton.proofs.Codes.{step-edge, step-unit, step-move, edge-needs, unit-needs, move-cases}
 
@@ -63,11 +63,6 @@ at-corner i h k = oneMoreIf (ltb i k) h
 corner-by : (b : Bool) (i h k : ℕ) → ltb i k ≡ b → at-corner i h k ≡ oneMoreIf b h
 unfolding at-corner
 corner-by b i h k e = ap (λ (c : Bool). oneMoreIf c h) e
-
-rank-ltb : (xs : List ℕ) (i k : ℕ) → occurs k xs ≡ true → ltb (rank xs i) (rank xs k) ≡ ltb i k
-rank-ltb xs i k m = by-bool (ltb i k)
-    (λ e. lt-ltb (rank xs i) (rank xs k) (rank-lt xs i k (ltb-true i k e) (occurs-tail k 0 xs m)) ∙ sym e)
-    (λ e. le-ltb (rank xs i) (rank xs k) (rank-mono xs k i (ltb-false i k e)) ∙ sym e)
 
 pub edge-point : (A : Automaton) (u : Node) (e : ℕ) → point (edgeTo A u e) ≡ mask (A .reset e) (point u)
 unfolding closeUp at-corner

@@ -4,8 +4,8 @@ use mathlib.Core.Bool.{Bool, true, false, cond, false≢true}
 use mathlib.Core.List.{List, [], _∷_, map, map-map}
 use Prim.Native.Nat.{ℕ, zero, suc, _+_, _≤_, _<_}
 use native.Mathlib.Omega.{arith}
-use borrow.Author.Tests.{eq-eqb, ne-eqb}
-use lib.Dec.{eqb, eqb·suc-suc}
+use borrow.Author.Tests.{eq-eqb, ne-eqb, ltb-true, ltb-false, lt-ltb, le-ltb}
+use lib.Dec.{ltb, eqb, eqb·suc-suc}
 use lib.ListN.{length, length-map}
 use Rattle.automaton.specs.Tests.{oneMoreIf, occurs}
 use Rattle.automaton.specs.Ranks.{rank, closeUp, mask}
@@ -46,6 +46,12 @@ rank-eqb xs a b ma mb = by-order a b
     (λ h. let l = rank-lt xs a b h mb in ne-eqb (rank xs a) (rank xs b) (λ e. omega arith) ∙ sym (ne-eqb a b (λ e. omega arith)))
     (λ e. eq-eqb (rank xs a) (rank xs b) (ap (rank xs) e) ∙ sym (eq-eqb a b e))
     (λ h. let l = rank-lt xs b a h ma in ne-eqb (rank xs a) (rank xs b) (λ e. omega arith) ∙ sym (ne-eqb a b (λ e. omega arith)))
+
+-- ranks keep the order: a number is below an entry just where its rank is below the entry's
+pub rank-ltb : (xs : List ℕ) (i k : ℕ) → occurs k xs ≡ true → ltb (rank xs i) (rank xs k) ≡ ltb i k
+rank-ltb xs i k m = by-bool (ltb i k)
+    (λ e. lt-ltb (rank xs i) (rank xs k) (rank-lt xs i k (ltb-true i k e) (occurs-tail k 0 xs m)) ∙ sym e)
+    (λ e. le-ltb (rank xs i) (rank xs k) (rank-mono xs k i (ltb-false i k e)) ∙ sym e)
 
 -- the class of an entry is 0 just where the entry is
 pub rank-whole : (xs : List ℕ) (x : ℕ) → occurs x xs ≡ true → eqb (rank xs x) 0 ≡ eqb x 0

@@ -3,7 +3,7 @@ use mathlib.Core.Path.{_≡_, sym, ap, ap₂, _∙_, subst}
 use mathlib.Core.Bool.{Bool, true}
 use mathlib.Core.List.{List, map}
 use mathlib.Core.Option.{some}
-use Prim.Native.Nat.{ℕ, suc, _<_}
+use Prim.Native.Nat.{ℕ, suc, _≤_, _<_}
 use native.Mathlib.Omega.{arith}
 use borrow.Author.Tests.{ltb-true}
 use lib.Dec.{ltb, eqb}
@@ -17,13 +17,13 @@ use Rattle.automaton.specs.Nodes.{Node, intervals, inside, largestClass,
 use Rattle.automaton.specs.Steps.{edgeTo, edgeAllowed, someWhole, unitTo, riseTo, carryWhole, carryClass, carryTo, step}
 use Rattle.automaton.specs.Walks.{Reachable}
 use Rattle.automaton.proofs.Tests.{by-order, &&-left, &&-right}
-use Rattle.automaton.proofs.Lists.{occurs-map, length-zip}
+use Rattle.automaton.proofs.Lists.{occurs-map, Each, length-zip}
 use Rattle.automaton.proofs.Ranks.{rank-grows, length-close, length-mask, close-close, close-suc}
 use Rattle.automaton.proofs.Largest.{occurs-le, le-largest, largest-occurs, largest-close, rank-le-largest, rank-carry, close-carry}
 use Rattle.automaton.proofs.Codes.{step-cases, edge-needs, unit-needs, move-cases}
 use Rattle.automaton.proofs.Thresholds.{close-zeros}
 use Rattle.automaton.proofs.Walks.{reach-holds}
-use Rattle.automaton.proofs.Nodes.{Proper, proper-of, of-proper}
+use Rattle.automaton.proofs.Nodes.{Proper, proper-of, of-proper, whole-small}
 
 start-proper : (A : Automaton) → Sound A → Proper A (startNode A)
 unfolding startNode
@@ -102,13 +102,18 @@ step-proper A o u code x e h = step-cases A u code x e
     leads : {y : Priced Node} → x ≡ y → Proper A (y .to) → Proper A (x .to)
     leads q = subst (λ (z : Priced Node). Proper A (z .to)) (sym q)
 
-pub start-node-is : (A : Automaton) → Sound A → isNode A (startNode A) ≡ true
-start-node-is A o = of-proper A (startNode A) (start-proper A o)
+pub start-is-node : (A : Automaton) → Sound A → isNode A (startNode A) ≡ true
+start-is-node A o = of-proper A (startNode A) (start-proper A o)
 
 -- a step from a node leads to a node
-pub step-node-is : (A : Automaton) → Sound A → (u : Node) (code : ℕ) (x : Priced Node) → step A u code ≡ some x → isNode A u ≡ true → isNode A (x .to) ≡ true
-step-node-is A o u code x e h = of-proper A (x .to) (step-proper A o u code x e (proper-of A u h))
+pub step-to-node : (A : Automaton) → Sound A → (u : Node) (code : ℕ) (x : Priced Node) → step A u code ≡ some x → isNode A u ≡ true → isNode A (x .to) ≡ true
+step-to-node A o u code x e h = of-proper A (x .to) (step-proper A o u code x e (proper-of A u h))
 
 -- every reachable node is a node
-pub reached-node-is : (A : Automaton) → Sound A → (u : Node) → Reachable (step A) (startNode A) u → isNode A u ≡ true
-reached-node-is A o = reach-holds (step A) (startNode A) (λ u. isNode A u ≡ true) (start-node-is A o) (step-node-is A o)
+pub reached-is-node : (A : Automaton) → Sound A → (u : Node) → Reachable (step A) (startNode A) u → isNode A u ≡ true
+reached-is-node A o = reach-holds (step A) (startNode A) (λ u. isNode A u ≡ true) (start-is-node A o) (step-to-node A o)
+
+-- and with bounds up to 25 its whole parts are 12 at most
+pub reached-whole : (A : Automaton) → Sound A → ((l j : ℕ) → l < A .locations → j < A .clocks → A .bound l j ≤ 25)
+    → (u : Node) → Reachable (step A) (startNode A) u → Each (λ h. h ≤ 12) (u .region .whole)
+reached-whole A o small u h = let k = proper-of A u (reached-is-node A o u h) in whole-small 12 k (λ j. small (u .location) j (k .here))

@@ -11,11 +11,11 @@ pub record Automaton : Type 0 where
   pub locations : ℕ
   pub clocks : ℕ
   pub edges : ℕ
-  -- of a location: the upper byte of each clock, and the rates
+  -- of a location: the upper byte of each of its clocks, and the rates
   pub bound : ℕ → ℕ → ℕ
   pub costRate : ℕ → ℤ
   pub rewardRate : ℕ → ℕ
-  -- of an edge; the lower byte 0, clock ≥ 0, stands for an absent lower guard
+  -- of an edge, and of each clock: an absent lower guard is the byte 0, clock ≥ 0
   pub source : ℕ → ℕ
   pub target : ℕ → ℕ
   pub lower : ℕ → ℕ → ℕ
@@ -24,7 +24,7 @@ pub record Automaton : Type 0 where
   pub cost : ℕ → ℤ
   pub reward : ℕ → ℕ
 
--- Does each clock keep its bound in location l? A clock is told as the number of an interval, or as a value in nths, and the test of a byte goes with that.
+-- Does each clock keep its bound in location l? The clocks are numbers of intervals, or values in nths, and the test of a byte is the one for these.
 unfoldable pub inBounds : (ℕ → ℕ → Bool) → Automaton → ℕ → List ℕ → Bool
 inBounds upperHolds A l = every (λ j x. upperHolds (A .bound l j) x)
 

@@ -1,4 +1,4 @@
--- Runs in nths. Costs and rewards are told times n.
+-- Runs in nths. Costs and rewards stand times n.
 use mathlib.Core.Bool.{Bool, _&&_}
 use mathlib.Core.List.{List, map}
 use mathlib.Core.Option.{Option}

@@ -1,4 +1,4 @@
--- Walks, reachable nodes and cycles, for any steps by code: those of nodes, and those of node numbers.
+-- Walks, reachable nodes and cycles, for any steps by code: those of an automaton A are `step A` from `startNode A`, and node numbers have theirs.
 use mathlib.Core.Path.{_≡_}
 use mathlib.Core.List.{List}
 use mathlib.Core.Option.{Option, some}
