@@ -41,13 +41,17 @@ chain-holds {S} f P nothing two one s (m ∷ ms) x e =
     (two (t .first .cost) (t .second .cost) (t .first .reward) (t .second .reward) s (t .first .to) (t .second .to)
     (one s m (t .first) (t .took)) (chain-holds f P nothing two one (t .first .to) ms (t .second) (t .went)))
 
+joined-free : {S : Type 0} (s : S) (z : Priced S) → joined (free s) z ≡ z
+joined-free s z = λ i. record { to = z .to; cost = +ℤ-idl (z .cost) i; reward = zero-add (z .reward) i }
+
+joined-assoc : {S : Type 0} (a b c : Priced S) → joined (joined a b) c ≡ joined a (joined b c)
+joined-assoc a b c = λ i. record {
+  to = c .to;
+  cost = +ℤ-assoc (a .cost) (b .cost) (c .cost) i;
+  reward = add-assoc (a .reward) (b .reward) (c .reward) i;
+}
+
 module _ {S M : Type 0} (f : S → M → Option (Priced S)) where
-  joined-free : (s : S) (z : Priced S) → joined (free s) z ≡ z
-  joined-free s z = λ i. record { to = z .to; cost = +ℤ-idl (z .cost) i; reward = zero-add (z .reward) i }
-
-  joined-assoc : (a b c : Priced S) → joined (joined a b) c ≡ joined a (joined b c)
-  joined-assoc a b c = λ i. record { to = c .to; cost = +ℤ-assoc (a .cost) (b .cost) (c .cost) i; reward = add-assoc (a .reward) (b .reward) (c .reward) i }
-
   pub chain-append : (s : S) (xs ys : List M) → chain f s (xs ++ ys) ≡ andThen (chain f s xs) (λ t. chain f t ys)
   unfolding chain
   chain-append s [] ys = from-start (chain f s ys)

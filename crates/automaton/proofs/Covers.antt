@@ -32,6 +32,7 @@ use Rattle.automaton.proofs.Weights.{weight-zero, weight-+, weight-time
 use Rattle.automaton.proofs.Walks.{reach-start}
 use Rattle.automaton.proofs.Potentials.{Leads, leads-same, leads-chain, leads-step}
 
+-- the potential of a state: those of its nodes, summed over the thresholds
 unfoldable pub Φ : (Node → ℤ) → ℕ → State → ℤ
 Φ π n s = sum n (λ t. π (nodeAt n s t))
 

@@ -10,7 +10,7 @@ use Rattle.automaton.specs.Automaton.{Automaton}
 use Rattle.automaton.specs.Priced.{Priced, free, joined}
 use Rattle.automaton.specs.Runs.{State, Member, takes, run, startState}
 use Rattle.automaton.specs.Loops.{place, Loop}
-use Rattle.automaton.proofs.Chains.{Split, then-split, chain-append, chain-nil}
+use Rattle.automaton.proofs.Chains.{some-inj, Split, then-split, chain-append, chain-nil}
 
 -- the start is a place of every list
 pub place-zero : (A : Automaton) (n : ℕ) (members : List Member) → place A n members 0 ≡ some (free (startState A))
@@ -50,10 +50,7 @@ comes-back A n members i j h a b ea eb same = (
     split = places A n members i j h b eb
 
     first : split .first ≡ a
-    first = some-of (sym (split .took) ∙ ea)
-      where
-        some-of : {x y : Priced State} → some x ≡ some y → x ≡ y
-        some-of e = cc
+    first = some-inj (sym (split .took) ∙ ea)
 
 -- a run has all its places
 pub run-places : (A : Automaton) (n : ℕ) (members : List Member) (x : Priced State) → run A n (startState A) members ≡ some x
