@@ -65,3 +65,15 @@ each-all k p i h l e = let q : k ≡ i = omega arith in ap (λ (j : ℕ). each j
 
 pub answer-yes : (n k : ℕ) (p : ℕ → Bool) (i : ℕ) → i ≤ k → k ≤ i → each i p ≡ true → 0 ≡ ask n (each k p) 0
 answer-yes n k p i h l e = sym (ap (λ (t : Bool). ask n t 0) (each-all k p i h l e))
+
+-- ---- three numbers, one after the other: r is the first that is not 0
+
+module _ (a b d r : ℕ) where
+  pub first-of-three : r ≡ a → (r ≡ 0 → ⊥) → r ≡ orElse a (orElse b d)
+  first-of-three p n = p ∙ sym (or-first a (orElse b d) (λ e. n (p ∙ e)))
+
+  pub second-of-three : {x : ℕ} → x ≡ a → x ≡ 0 → r ≡ b → (r ≡ 0 → ⊥) → r ≡ orElse a (orElse b d)
+  second-of-three p z q n = q ∙ sym (or-zero a (orElse b d) (sym p ∙ z) ∙ or-first b d (λ e. n (q ∙ e)))
+
+  pub third-of-three : {x y : ℕ} → x ≡ a → x ≡ 0 → y ≡ b → y ≡ 0 → r ≡ d → r ≡ orElse a (orElse b d)
+  third-of-three p z q y o = o ∙ sym (or-zero a (orElse b d) (sym p ∙ z) ∙ or-zero b d (sym q ∙ y))

@@ -1,4 +1,5 @@
 -- Case by case.
+use Rattle.sheet.specs.Fields.{within, costInRange, inRange}
 use mir.Syntax.{w16}
 use mathlib.Core.Path.{sym, ap, _∙_}
 use Prim.Native.Nat.{ℕ, _-_}
@@ -6,10 +7,7 @@ use borrow.Author.Needs.{needs, sfits-of}
 use native.Mathlib.Omega.{arith}
 use lib.Pow.{pow-pos}
 use mir.ValLaws.{toZ-ofZ}
-use Rattle.sheet.specs.Fields.{within, inRange}
 use Rattle.sheet.proofs.MapLaws.{one-shl}
-use borrow.Author.Needs.{needs}
-use Rattle.sheet.specs.Fields.{inRange}
 use Rattle.sheet.proofs.fields.in_range.Statement.{statement}
 use Rattle.sheet.proofs.fields.in_range.Tie as tie
 
@@ -59,7 +57,9 @@ returns : tie.Need-returns
 unfolding inRange
 returns c =
     let a = c .before .before .before .before .args in
-    cc (toZ-ofZ w16 (c .before .signed .result) (sfits-of (c .before .signed .ok)), ap (λ f. inRange (a .clocks) f (a .v)) (c .before .before .enum-told .given .1))
+    c .cost-in-range .ensures
+    ∙ ap costInRange (toZ-ofZ w16 (c .before .signed .result) (sfits-of (c .before .signed .ok)) ∙ c .before .signed .ensures)
+    ∙ sym (ap (λ f. inRange (a .clocks) f (a .v)) (c .before .before .enum-told .given .1))
 
 returns-2 : tie.Need-returns-2
 unfolding inRange

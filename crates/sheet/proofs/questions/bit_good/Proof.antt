@@ -1,5 +1,6 @@
 -- Clear, or as its field is.
-use mathlib.Core.Path.{sym}
+use mathlib.Core.Path.{sym, ap, _∙_}
+use Rattle.sheet.specs.Fields.{permittedField}
 use borrow.Author.Needs.{needs}
 use Rattle.sheet.proofs.CodeLaws.{bit-clear, bit-is}
 use Rattle.sheet.proofs.questions.bit_good.Statement.{statement}
@@ -9,7 +10,9 @@ bit-requires : tie.Need-bit-requires
 bit-requires c κs = search needs
 
 returns : tie.Need-returns
-returns c = sym (bit-clear (c .before .before .args .kind) (c .before .before .args .clocks) (c .before .before .args .map) (c .before .before .args .b) (cc))
+returns c =
+    let a = c .before .before .args in
+    sym (bit-clear (a .kind) (a .clocks) (a .map) (a .b) (sym (c .before .bit .ensures) ∙ c .if1 .taken))
 
 field-of-requires : tie.Need-field-of-requires
 field-of-requires c κs = search needs
@@ -20,7 +23,8 @@ permitted-requires c κs = search needs
 returns-2 : tie.Need-returns-2
 returns-2 c =
     let a = c .before .before .before .before .args in
-    cc (bit-is (a .kind) (a .clocks) (a .map) (a .b) (λ z. c .before .before .if1 .left (cc)))
+    c .permitted .ensures ∙ ap (permittedField (a .clocks)) (c .before .field-of .ensures)
+    ∙ sym (bit-is (a .kind) (a .clocks) (a .map) (a .b) (λ z. c .before .before .if1 .left (c .before .before .before .bit .ensures ∙ z)))
 
 pub bit-good-spec : {M : Type 1} → statement M
 bit-good-spec =

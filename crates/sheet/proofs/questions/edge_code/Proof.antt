@@ -1,7 +1,7 @@
 -- The first number that is not 0.
+use Rattle.sheet.proofs.QuestionLaws.{first-of-three, second-of-three, third-of-three}
 use borrow.Author.Needs.{needs}
-use Rattle.sheet.specs.Questions.{edgeCode, endsCode, fieldsCode, mapCode, orElse}
-use Rattle.sheet.proofs.QuestionLaws.{or-zero, or-first}
+use Rattle.sheet.specs.Questions.{edgeCode, endsCode, fieldsCode, mapCode}
 use Rattle.sheet.specs.declared.fields.Kind.the-variants.{EdgeRecord}
 use Rattle.sheet.proofs.questions.edge_code.Statement.{statement}
 use Rattle.sheet.proofs.questions.edge_code.Tie as tie
@@ -13,7 +13,7 @@ returns : tie.Need-returns
 unfolding edgeCode
 returns c =
     let a = c .before .before .before .args in
-    cc (or-first (mapCode EdgeRecord (a .clocks) (a .s .now) (a .at)) (orElse (fieldsCode EdgeRecord (a .clocks) (a .s .now) (a .at)) (endsCode (a .locations) (a .s .now) (a .at))) (λ e. c .if1 .taken (cc)))
+    first-of-three (mapCode EdgeRecord (a .clocks) (a .s .now) (a .at)) (fieldsCode EdgeRecord (a .clocks) (a .s .now) (a .at)) (endsCode (a .locations) (a .s .now) (a .at)) (c .before .map-code .result) (c .before .map-code .ensures) (c .if1 .taken)
 
 fields-code-requires : tie.Need-fields-code-requires
 fields-code-requires c κs = search needs
@@ -22,7 +22,7 @@ returns-2 : tie.Need-returns-2
 unfolding edgeCode
 returns-2 c =
     let a = c .before .before .before .before .before .args in
-    cc (or-zero (mapCode EdgeRecord (a .clocks) (a .s .now) (a .at)) (orElse (fieldsCode EdgeRecord (a .clocks) (a .s .now) (a .at)) (endsCode (a .locations) (a .s .now) (a .at))) (cc), or-first (fieldsCode EdgeRecord (a .clocks) (a .s .now) (a .at)) (endsCode (a .locations) (a .s .now) (a .at)) (λ e. c .if2 .taken (cc)))
+    second-of-three (mapCode EdgeRecord (a .clocks) (a .s .now) (a .at)) (fieldsCode EdgeRecord (a .clocks) (a .s .now) (a .at)) (endsCode (a .locations) (a .s .now) (a .at)) (c .before .fields-code .result) (c .before .before .before .map-code .ensures) (c .before .before .if1 .left) (c .before .fields-code .ensures) (c .if2 .taken)
 
 ends-code-requires : tie.Need-ends-code-requires
 ends-code-requires c κs = search needs
@@ -31,7 +31,7 @@ returns-3 : tie.Need-returns-3
 unfolding edgeCode
 returns-3 c =
     let a = c .before .before .before .before .before .before .args in
-    cc (or-zero (mapCode EdgeRecord (a .clocks) (a .s .now) (a .at)) (orElse (fieldsCode EdgeRecord (a .clocks) (a .s .now) (a .at)) (endsCode (a .locations) (a .s .now) (a .at))) (cc), or-zero (fieldsCode EdgeRecord (a .clocks) (a .s .now) (a .at)) (endsCode (a .locations) (a .s .now) (a .at)) (cc))
+    third-of-three (mapCode EdgeRecord (a .clocks) (a .s .now) (a .at)) (fieldsCode EdgeRecord (a .clocks) (a .s .now) (a .at)) (endsCode (a .locations) (a .s .now) (a .at)) (c .ends-code .result) (c .before .before .before .before .map-code .ensures) (c .before .before .before .if1 .left) (c .before .before .fields-code .ensures) (c .before .if2 .left) (c .ends-code .ensures)
 
 pub edge-code-spec : {M : Type 1} → statement M
 edge-code-spec =

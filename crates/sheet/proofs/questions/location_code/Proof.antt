@@ -1,7 +1,7 @@
 -- The first number that is not 0.
+use Rattle.sheet.proofs.QuestionLaws.{first-of-three, second-of-three, third-of-three}
 use borrow.Author.Needs.{needs}
-use Rattle.sheet.specs.Questions.{boundsCode, fieldsCode, locationCode, mapCode, orElse}
-use Rattle.sheet.proofs.QuestionLaws.{or-zero, or-first}
+use Rattle.sheet.specs.Questions.{boundsCode, fieldsCode, locationCode, mapCode}
 use Rattle.sheet.specs.declared.fields.Kind.the-variants.{LocationRecord}
 use Rattle.sheet.proofs.questions.location_code.Statement.{statement}
 use Rattle.sheet.proofs.questions.location_code.Tie as tie
@@ -13,7 +13,7 @@ returns : tie.Need-returns
 unfolding locationCode
 returns c =
     let a = c .before .before .before .args in
-    cc (or-first (mapCode LocationRecord (a .clocks) (a .s .now) (a .at)) (orElse (boundsCode (a .clocks) (a .s .now) (a .at)) (fieldsCode LocationRecord (a .clocks) (a .s .now) (a .at))) (λ e. c .if1 .taken (cc)))
+    first-of-three (mapCode LocationRecord (a .clocks) (a .s .now) (a .at)) (boundsCode (a .clocks) (a .s .now) (a .at)) (fieldsCode LocationRecord (a .clocks) (a .s .now) (a .at)) (c .before .map-code .result) (c .before .map-code .ensures) (c .if1 .taken)
 
 bounds-code-requires : tie.Need-bounds-code-requires
 bounds-code-requires c κs = search needs
@@ -22,7 +22,7 @@ returns-2 : tie.Need-returns-2
 unfolding locationCode
 returns-2 c =
     let a = c .before .before .before .before .before .args in
-    cc (or-zero (mapCode LocationRecord (a .clocks) (a .s .now) (a .at)) (orElse (boundsCode (a .clocks) (a .s .now) (a .at)) (fieldsCode LocationRecord (a .clocks) (a .s .now) (a .at))) (cc), or-first (boundsCode (a .clocks) (a .s .now) (a .at)) (fieldsCode LocationRecord (a .clocks) (a .s .now) (a .at)) (λ e. c .if2 .taken (cc)))
+    second-of-three (mapCode LocationRecord (a .clocks) (a .s .now) (a .at)) (boundsCode (a .clocks) (a .s .now) (a .at)) (fieldsCode LocationRecord (a .clocks) (a .s .now) (a .at)) (c .before .bounds-code .result) (c .before .before .before .map-code .ensures) (c .before .before .if1 .left) (c .before .bounds-code .ensures) (c .if2 .taken)
 
 fields-code-requires : tie.Need-fields-code-requires
 fields-code-requires c κs = search needs
@@ -31,7 +31,7 @@ returns-3 : tie.Need-returns-3
 unfolding locationCode
 returns-3 c =
     let a = c .before .before .before .before .before .before .args in
-    cc (or-zero (mapCode LocationRecord (a .clocks) (a .s .now) (a .at)) (orElse (boundsCode (a .clocks) (a .s .now) (a .at)) (fieldsCode LocationRecord (a .clocks) (a .s .now) (a .at))) (cc), or-zero (boundsCode (a .clocks) (a .s .now) (a .at)) (fieldsCode LocationRecord (a .clocks) (a .s .now) (a .at)) (cc))
+    third-of-three (mapCode LocationRecord (a .clocks) (a .s .now) (a .at)) (boundsCode (a .clocks) (a .s .now) (a .at)) (fieldsCode LocationRecord (a .clocks) (a .s .now) (a .at)) (c .fields-code .result) (c .before .before .before .before .map-code .ensures) (c .before .before .before .if1 .left) (c .before .before .bounds-code .ensures) (c .before .if2 .left) (c .fields-code .ensures)
 
 pub location-code-spec : {M : Type 1} → statement M
 location-code-spec =

@@ -1,10 +1,10 @@
 -- Every record before the one in hand has passed.
-use mathlib.Core.Path.{_≡_, refl}
-use Prim.Native.Nat.{_-_, _≤_}
+use mathlib.Core.Path.{_≡_, refl, sym, ap, ap₂, _∙_}
+use Prim.Native.Nat.{ℕ, _+_, _-_, _≤_}
+use Rattle.sheet.specs.Records.{recordAt, recordLength, locationAt}
+use Rattle.sheet.specs.Questions.{firstOf, locationCode, edgeCode}
 use borrow.Author.Needs.{needs}
 use native.Mathlib.Omega.{arith}
-use Rattle.sheet.specs.Records.{recordAt, locationAt}
-use Rattle.sheet.specs.Questions.{firstOf}
 use Rattle.sheet.specs.declared.fields.Kind.the-variants.{LocationRecord, EdgeRecord}
 use Rattle.sheet.proofs.RecordLaws.{at-le, at-more, length-le}
 use Rattle.sheet.proofs.QuestionLaws.{first-none, first-more}
@@ -56,15 +56,20 @@ loop-less c = search needs
 
 loop-again : tie.Need-loop-again Inv-loop μ-loop Inv-loop2 μ-loop2 Inv-records μ-records
 loop-again c =
-    let l = c .before .before .before .before .loop in
-    (search needs, (cc (at-more LocationRecord (c .before .before .before .before .before .before .before .args .s .now) 4 (l .i)), first-more (l .i) (ofLocation (c .before .before .before .before .before .before .before .args .clocks) (c .before .before .before .before .before .before .before .args .locations) (c .before .before .before .before .before .before .before .args .edges) (c .before .before .before .before .before .before .before .args .s .now)) (l .inv .1 .1) (cc)))
+    let l = c .before .before .before .before .loop in (
+      search needs,
+      (
+        ap₂ _+_ (l .inv .1 .0) (c .record-length .ensures ∙ ap (recordLength LocationRecord (c .before .before .before .before .before .before .before .args .s .now)) (l .inv .1 .0)) ∙ sym (at-more LocationRecord (c .before .before .before .before .before .before .before .args .s .now) 4 (l .i)),
+        first-more (l .i) (ofLocation (c .before .before .before .before .before .before .before .args .clocks) (c .before .before .before .before .before .before .before .args .locations) (c .before .before .before .before .before .before .before .args .edges) (c .before .before .before .before .before .before .before .args .s .now)) (l .inv .1 .1) (ap (locationCode (c .before .before .before .before .before .before .before .args .clocks) (c .before .before .before .before .before .before .before .args .s .now)) (sym (l .inv .1 .0)) ∙ sym (c .before .before .location-code .ensures) ∙ c .before .if1 .left),
+      ),
+    )
 
 loop2-holds : tie.Need-loop2-holds Inv-loop μ-loop Inv-loop2 μ-loop2 Inv-records μ-records
 unfolding recordAt
 loop2-holds c =
     let l = c .before .loop in
-    let e : c .before .before .before .before .args .locations ≡ l .i = omega arith in
-    (search needs, (cc, (cc, first-none (ofEdge (c .before .before .before .before .args .clocks) (c .before .before .before .before .args .locations) (c .before .before .before .before .args .edges) (c .before .before .before .before .args .s .now)))))
+    let e : l .i ≡ c .before .before .before .before .args .locations = omega arith in
+    (search needs, (l .inv .1 .0 ∙ ap (recordAt LocationRecord (c .before .before .before .before .args .s .now) 4) e, (ap (λ (n : ℕ). firstOf n (ofLocation (c .before .before .before .before .args .clocks) (c .before .before .before .before .args .locations) (c .before .before .before .before .args .edges) (c .before .before .before .before .args .s .now))) (sym e) ∙ l .inv .1 .1, first-none (ofEdge (c .before .before .before .before .args .clocks) (c .before .before .before .before .args .locations) (c .before .before .before .before .args .edges) (c .before .before .before .before .args .s .now)))))
 
 edge-code-requires :
     tie.Need-edge-code-requires Inv-loop μ-loop Inv-loop2 μ-loop2 Inv-records μ-records
@@ -85,8 +90,16 @@ loop2-less c = search needs
 
 loop2-again : tie.Need-loop2-again Inv-loop μ-loop Inv-loop2 μ-loop2 Inv-records μ-records
 loop2-again c =
-    let l = c .before .before .before .before .loop2 in
-    (search needs, (cc (at-more EdgeRecord (c .before .before .before .before .before .before .before .before .before .args .s .now) (locationAt (c .before .before .before .before .before .before .before .before .before .args .s .now) (c .before .before .before .before .before .before .before .before .before .args .locations)) (l .e)), (l .inv .1 .1 .0, first-more (l .e) (ofEdge (c .before .before .before .before .before .before .before .before .before .args .clocks) (c .before .before .before .before .before .before .before .before .before .args .locations) (c .before .before .before .before .before .before .before .before .before .args .edges) (c .before .before .before .before .before .before .before .before .before .args .s .now)) (l .inv .1 .1 .1) (cc))))
+    let l = c .before .before .before .before .loop2 in (
+      search needs,
+      (
+        ap₂ _+_ (l .inv .1 .0) (c .record-length2 .ensures ∙ ap (recordLength EdgeRecord (c .before .before .before .before .before .before .before .before .before .args .s .now)) (l .inv .1 .0)) ∙ sym (at-more EdgeRecord (c .before .before .before .before .before .before .before .before .before .args .s .now) (locationAt (c .before .before .before .before .before .before .before .before .before .args .s .now) (c .before .before .before .before .before .before .before .before .before .args .locations)) (l .e)),
+        (
+          l .inv .1 .1 .0,
+          first-more (l .e) (ofEdge (c .before .before .before .before .before .before .before .before .before .args .clocks) (c .before .before .before .before .before .before .before .before .before .args .locations) (c .before .before .before .before .before .before .before .before .before .args .edges) (c .before .before .before .before .before .before .before .before .before .args .s .now)) (l .inv .1 .1 .1) (ap (edgeCode (c .before .before .before .before .before .before .before .before .before .args .clocks) (c .before .before .before .before .before .before .before .before .before .args .locations) (c .before .before .before .before .before .before .before .before .before .args .s .now)) (sym (l .inv .1 .0)) ∙ sym (c .before .before .edge-code .ensures) ∙ c .before .if2 .left),
+        ),
+      ),
+    )
 
 start-code-requires :
     tie.Need-start-code-requires Inv-loop μ-loop Inv-loop2 μ-loop2 Inv-records μ-records
@@ -95,24 +108,28 @@ start-code-requires c κs = search needs
 returns : tie.Need-returns Inv-loop μ-loop Inv-loop2 μ-loop2 Inv-records μ-records
 returns c =
     let l = c .before .before .before .loop in
-    cc (location-refused (c .before .before .before .before .before .before .args .clocks) (c .before .before .before .before .before .before .args .locations) (c .before .before .before .before .before .before .args .edges) (c .before .before .before .before .before .before .args .s .now) (l .i) (search needs) (l .inv .1 .1) (λ e. c .if1 .taken (cc)))
+    let p = c .before .location-code .ensures ∙ ap (locationCode (c .before .before .before .before .before .before .args .clocks) (c .before .before .before .before .before .before .args .s .now)) (l .inv .1 .0) in
+    p ∙ location-refused (c .before .before .before .before .before .before .args .clocks) (c .before .before .before .before .before .before .args .locations) (c .before .before .before .before .before .before .args .edges) (c .before .before .before .before .before .before .args .s .now) (l .i) (search needs) (l .inv .1 .1) (λ e. c .if1 .taken (p ∙ e))
 
 returns-2 : tie.Need-returns-2 Inv-loop μ-loop Inv-loop2 μ-loop2 Inv-records μ-records
 returns-2 c =
     let l = c .before .before .before .loop2 in
-    cc (edge-refused (c .before .before .before .before .before .before .before .before .args .clocks) (c .before .before .before .before .before .before .before .before .args .locations) (c .before .before .before .before .before .before .before .before .args .edges) (c .before .before .before .before .before .before .before .before .args .s .now) (l .inv .1 .1 .0) (l .e) (search needs) (l .inv .1 .1 .1) (λ e. c .if2 .taken (cc)))
+    let p = c .before .edge-code .ensures ∙ ap (edgeCode (c .before .before .before .before .before .before .before .before .args .clocks) (c .before .before .before .before .before .before .before .before .args .locations) (c .before .before .before .before .before .before .before .before .args .s .now)) (l .inv .1 .0) in
+    p ∙ edge-refused (c .before .before .before .before .before .before .before .before .args .clocks) (c .before .before .before .before .before .before .before .before .args .locations) (c .before .before .before .before .before .before .before .before .args .edges) (c .before .before .before .before .before .before .before .before .args .s .now) (l .inv .1 .1 .0) (l .e) (search needs) (l .inv .1 .1 .1) (λ e. c .if2 .taken (p ∙ e))
 
 returns-3 : tie.Need-returns-3 Inv-loop μ-loop Inv-loop2 μ-loop2 Inv-records μ-records
 returns-3 c =
     let l = c .before .before .loop2 in
     let e : c .before .before .before .before .before .before .before .args .edges ≡ l .e = omega arith in
-    bytes-left (c .before .before .before .before .before .before .before .args .clocks) (c .before .before .before .before .before .before .before .args .locations) (c .before .before .before .before .before .before .before .args .edges) (c .before .before .before .before .before .before .before .args .s .now) (l .inv .1 .1 .0) (cc) (λ q. c .if3 .taken (cc))
+    bytes-left (c .before .before .before .before .before .before .before .args .clocks) (c .before .before .before .before .before .before .before .args .locations) (c .before .before .before .before .before .before .before .args .edges) (c .before .before .before .before .before .before .before .args .s .now) (l .inv .1 .1 .0) (ap (λ (n : ℕ). firstOf n (ofEdge (c .before .before .before .before .before .before .before .args .clocks) (c .before .before .before .before .before .before .before .args .locations) (c .before .before .before .before .before .before .before .args .edges) (c .before .before .before .before .before .before .before .args .s .now))) e ∙ l .inv .1 .1 .1)
+    (λ q. c .if3 .taken (l .inv .1 .0 ∙ ap (recordAt EdgeRecord (c .before .before .before .before .before .before .before .args .s .now) (locationAt (c .before .before .before .before .before .before .before .args .s .now) (c .before .before .before .before .before .before .before .args .locations))) (sym e) ∙ q))
 
 returns-4 : tie.Need-returns-4 Inv-loop μ-loop Inv-loop2 μ-loop2 Inv-records μ-records
 returns-4 c =
     let l = c .before .before .before .loop2 in
     let e : c .before .before .before .before .before .before .before .before .args .edges ≡ l .e = omega arith in
-    cc (all-used (c .before .before .before .before .before .before .before .before .args .clocks) (c .before .before .before .before .before .before .before .before .args .locations) (c .before .before .before .before .before .before .before .before .args .edges) (c .before .before .before .before .before .before .before .before .args .s .now) (l .inv .1 .1 .0) (cc) (cc))
+    c .start-code .ensures ∙ all-used (c .before .before .before .before .before .before .before .before .args .clocks) (c .before .before .before .before .before .before .before .before .args .locations) (c .before .before .before .before .before .before .before .before .args .edges) (c .before .before .before .before .before .before .before .before .args .s .now) (l .inv .1 .1 .0) (ap (λ (n : ℕ). firstOf n (ofEdge (c .before .before .before .before .before .before .before .before .args .clocks) (c .before .before .before .before .before .before .before .before .args .locations) (c .before .before .before .before .before .before .before .before .args .edges) (c .before .before .before .before .before .before .before .before .args .s .now))) e ∙ l .inv .1 .1 .1)
+    (ap (recordAt EdgeRecord (c .before .before .before .before .before .before .before .before .args .s .now) (locationAt (c .before .before .before .before .before .before .before .before .args .s .now) (c .before .before .before .before .before .before .before .before .args .locations))) e ∙ sym (l .inv .1 .0) ∙ c .before .if3 .left)
 
 pub records-code-spec : {M : Type 1} → statement M
 records-code-spec =
