@@ -1,11 +1,11 @@
 -- Questions asked in a loop: of each number below n, or of each record in turn.
 use mathlib.Core.Path.{_≡_, refl, sym, ap, ap₂, subst, _∙_}
-use mathlib.Core.Bool.{Bool, true, false, _&&_}
+use mathlib.Core.Bool.{Bool, true, false, not, _&&_}
 use Prim.Native.Nat.{ℕ, zero, suc, _+_, _≤_, _<_}
 use native.Mathlib.Numerals.{add-one}
 use native.Mathlib.Decide.{ℕ-discrete}
 use native.Mathlib.Omega.{arith}
-use borrow.Author.Tests.{eq-eqb, ne-eqb}
+use borrow.Author.Tests.{eq-eqb, ne-eqb, not-true, not-false}
 use Rattle.sheet.specs.Questions.{ask, orElse, each, firstOf}
 
 -- ---- each number passes
@@ -77,3 +77,11 @@ module _ (a b d r : ℕ) where
 
   pub third-of-three : {x y : ℕ} → x ≡ a → x ≡ 0 → y ≡ b → y ≡ 0 → r ≡ d → r ≡ orElse a (orElse b d)
   third-of-three p z q y o = o ∙ sym (or-zero a (orElse b d) (sym p ∙ z) ∙ or-zero b d (sym q ∙ y))
+
+-- ---- a test that a function answered, as the code takes it
+
+pub denied : (r t : Bool) → r ≡ t → not r ≡ true → t ≡ false
+denied r t p h = sym p ∙ not-true r h
+
+pub granted : (r t : Bool) → r ≡ t → not r ≡ false → t ≡ true
+granted r t p h = sym p ∙ not-false r h

@@ -1,4 +1,6 @@
 -- Field by field.
+use mathlib.Core.Path.{ap, _∙_}
+use Rattle.sheet.specs.Bytes.{signedOf}
 use borrow.Author.Needs.{needs, sfits-of}
 use mir.Syntax.{w16}
 use mir.ValLaws.{toZ-ofZ}
@@ -36,7 +38,15 @@ clock-bytes-requires-2 : tie.Need-clock-bytes-requires-2
 clock-bytes-requires-2 c κs = search needs
 
 returns : tie.Need-returns
-returns c = cc (toZ-ofZ w16 (c .before .before .before .before .signed .result) (sfits-of (c .before .before .before .before .signed .ok)))
+returns c = λ i. record {
+  source = c .before .before .before .before .before .before .before .byte .ensures i;
+  target = c .before .before .before .before .before .before .byte2 .ensures i;
+  cost = (toZ-ofZ w16 (c .before .before .before .before .signed .result) (sfits-of (c .before .before .before .before .signed .ok)) ∙ c .before .before .before .before .signed .ensures ∙ ap signedOf (c .before .before .before .before .before .price .ensures)) i;
+  reward = c .before .before .before .price2 .ensures i;
+  reset = c .before .before .byte-field .ensures i;
+  lower = c .before .clock-bytes .ensures i;
+  upper = c .clock-bytes2 .ensures i;
+}
 
 pub read-edge-spec : {M : Type 1} → statement M
 read-edge-spec =

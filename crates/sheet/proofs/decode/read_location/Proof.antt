@@ -1,4 +1,6 @@
 -- Field by field.
+use mathlib.Core.Path.{ap, _∙_}
+use Rattle.sheet.specs.Bytes.{signedOf}
 use borrow.Author.Needs.{needs, sfits-of}
 use mir.Syntax.{w16}
 use mir.ValLaws.{toZ-ofZ}
@@ -18,7 +20,11 @@ clock-bytes-requires : tie.Need-clock-bytes-requires
 clock-bytes-requires c κs = search needs
 
 returns : tie.Need-returns
-returns c = cc (toZ-ofZ w16 (c .before .before .signed .result) (sfits-of (c .before .before .signed .ok)))
+returns c = λ i. record {
+  cost = (toZ-ofZ w16 (c .before .before .signed .result) (sfits-of (c .before .before .signed .ok)) ∙ c .before .before .signed .ensures ∙ ap signedOf (c .before .before .before .price .ensures)) i;
+  reward = c .before .price2 .ensures i;
+  upper = c .clock-bytes .ensures i;
+}
 
 pub read-location-spec : {M : Type 1} → statement M
 read-location-spec =

@@ -1,9 +1,9 @@
 -- The bits passed stand.
-use mathlib.Core.Path.{_≡_}
+use mathlib.Core.Path.{_≡_, sym, ap, _∙_}
+use Prim.Native.Nat.{ℕ, _+_, _-_, _≤_}
+use Rattle.sheet.specs.Maps.{bitOf, stands}
 use mathlib.Core.Bool.{true}
-use Prim.Native.Nat.{_+_, _-_, _≤_}
 use borrow.Author.Needs.{needs}
-use Rattle.sheet.specs.Maps.{stands}
 use Rattle.sheet.specs.Fields.{first}
 use Rattle.sheet.specs.Records.{mapOf}
 use Rattle.sheet.specs.Questions.{each, boundsCode}
@@ -49,17 +49,19 @@ loop-less c = search needs
 loop-again : tie.Need-loop-again Inv-loop μ-loop Inv-bounds μ-bounds
 loop-again c =
     let a = c .before .before .before .before .before .before .before .args in
-    let l = c .before .before .before .loop in
-    let stood = set-bit (mapOf LocationRecord (a .s .now) (a .at)) (first .bound + l .j) (λ z. c .if1 .left (cc)) in
-    (search needs, each-more (l .j) (λ i. stands (mapOf LocationRecord (a .s .now) (a .at)) (first .bound + i)) (l .inv .1) stood)
+    let l = c .before .before .before .loop in (
+      search needs,
+      each-more (l .j) (λ i. stands (mapOf LocationRecord (a .s .now) (a .at)) (first .bound + i)) (l .inv .1)
+          (set-bit (mapOf LocationRecord (a .s .now) (a .at)) (first .bound + l .j) (λ z. c .if1 .left (c .before .bit .ensures ∙ ap (λ (m : ℕ). bitOf m (first .bound + l .j)) (c .before .before .before .before .before .map-of .ensures) ∙ z))),
+    )
 
 returns : tie.Need-returns Inv-loop μ-loop Inv-bounds μ-bounds
 unfolding boundsCode
 returns c =
     let a = c .before .before .before .before .before .before .before .args in
     let l = c .before .before .before .loop in
-    let fell = clear (mapOf LocationRecord (a .s .now) (a .at)) (first .bound + l .j) (cc) in
-    answer-no 7 (a .clocks) (λ i. stands (mapOf LocationRecord (a .s .now) (a .at)) (first .bound + i)) (l .j) (search needs) fell
+    answer-no 7 (a .clocks) (λ i. stands (mapOf LocationRecord (a .s .now) (a .at)) (first .bound + i)) (l .j) (search needs)
+    (clear (mapOf LocationRecord (a .s .now) (a .at)) (first .bound + l .j) (sym (c .before .bit .ensures ∙ ap (λ (m : ℕ). bitOf m (first .bound + l .j)) (c .before .before .before .before .before .map-of .ensures)) ∙ c .if1 .taken))
 
 returns-2 : tie.Need-returns-2 Inv-loop μ-loop Inv-bounds μ-bounds
 unfolding boundsCode

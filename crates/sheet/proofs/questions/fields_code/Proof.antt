@@ -1,11 +1,10 @@
 -- The fields passed are absent or in range.
+use Rattle.sheet.proofs.QuestionLaws.{denied, granted, each-none, each-more, answer-no, answer-yes}
 use mathlib.Core.Path.{_≡_}
 use mathlib.Core.Bool.{true}
 use Prim.Native.Nat.{_-_, _≤_}
 use borrow.Author.Needs.{needs}
-use borrow.Author.Tests.{not-true, not-false}
 use Rattle.sheet.specs.Questions.{each, fieldGood, fieldsCode}
-use Rattle.sheet.proofs.QuestionLaws.{each-none, each-more, answer-no, answer-yes}
 use Rattle.sheet.proofs.questions.fields_code.Statement.{statement}
 use Rattle.sheet.proofs.questions.fields_code.Tie as tie
 
@@ -42,14 +41,14 @@ loop-again : tie.Need-loop-again Inv-loop μ-loop Inv-fields μ-fields
 loop-again c =
     let a = c .before .before .before .before .before .before .args in
     let l = c .before .before .before .loop in
-    (search needs, each-more (l .b) (fieldGood (a .kind) (a .clocks) (a .s .now) (a .at)) (l .inv .1) (cc (not-false (c .before .field-good .result) (c .if1 .left))))
+    (search needs, each-more (l .b) (fieldGood (a .kind) (a .clocks) (a .s .now) (a .at)) (l .inv .1) (granted _ (fieldGood (a .kind) (a .clocks) (a .s .now) (a .at) (l .b)) (c .before .field-good .ensures) (c .if1 .left)))
 
 returns : tie.Need-returns Inv-loop μ-loop Inv-fields μ-fields
 unfolding fieldsCode
 returns c =
     let a = c .before .before .before .before .before .before .args in
     let l = c .before .before .before .loop in
-    answer-no 8 16 (fieldGood (a .kind) (a .clocks) (a .s .now) (a .at)) (l .b) (search needs) (cc (not-true (c .before .field-good .result) (c .if1 .taken)))
+    answer-no 8 16 (fieldGood (a .kind) (a .clocks) (a .s .now) (a .at)) (l .b) (search needs) (denied _ (fieldGood (a .kind) (a .clocks) (a .s .now) (a .at) (l .b)) (c .before .field-good .ensures) (c .if1 .taken))
 
 returns-2 : tie.Need-returns-2 Inv-loop μ-loop Inv-fields μ-fields
 unfolding fieldsCode

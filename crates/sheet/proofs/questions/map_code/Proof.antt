@@ -1,14 +1,13 @@
 -- The bits passed are clear or permitted.
-use mathlib.Core.Path.{_≡_}
+use mathlib.Core.Path.{_≡_, ap, _∙_}
+use Rattle.sheet.proofs.QuestionLaws.{denied, granted, each-none, each-more, each-fails, each-all}
+use Prim.Native.Nat.{ℕ, _-_, _≤_}
 use mathlib.Core.Bool.{true}
-use Prim.Native.Nat.{_-_, _≤_}
 use borrow.Author.Needs.{needs}
-use borrow.Author.Tests.{not-true, not-false}
 use native.Mathlib.Omega.{arith}
 use Rattle.sheet.specs.Records.{mapOf}
 use Rattle.sheet.specs.Questions.{each, bitGood}
 use Rattle.sheet.proofs.RecordLaws.{map-le, length-le}
-use Rattle.sheet.proofs.QuestionLaws.{each-none, each-more, each-fails, each-all}
 use Rattle.sheet.proofs.CodeLaws.{no-map, bad-bit, no-fields, map-good}
 use Rattle.sheet.proofs.questions.map_code.Statement.{statement}
 use Rattle.sheet.proofs.questions.map_code.Tie as tie
@@ -55,7 +54,7 @@ loop-again : tie.Need-loop-again Inv-loop μ-loop Inv-map μ-map
 loop-again c =
     let a = c .before .before .before .before .before .before .before .before .before .args in
     let l = c .before .before .before .loop in
-    (search needs, each-more (l .b) (bitGood (a .kind) (a .clocks) (mapOf (a .kind) (a .s .now) (a .at))) (l .inv .1) (cc (not-false (c .before .bit-good .result) (c .if2 .left))))
+    (search needs, each-more (l .b) (bitGood (a .kind) (a .clocks) (mapOf (a .kind) (a .s .now) (a .at))) (l .inv .1) (granted _ _ (c .before .bit-good .ensures ∙ ap (λ (m : ℕ). bitGood (a .kind) (a .clocks) m (l .b)) (c .before .before .before .before .map-of .ensures)) (c .if2 .left)))
 
 record-length-requires : tie.Need-record-length-requires Inv-loop μ-loop Inv-map μ-map
 record-length-requires c κs = search needs
@@ -72,7 +71,7 @@ returns-2 : tie.Need-returns-2 Inv-loop μ-loop Inv-map μ-map
 returns-2 c =
     let a = c .before .before .before .before .before .before .before .before .before .args in
     let l = c .before .before .before .loop in
-    bad-bit (a .kind) (a .clocks) (a .s .now) (a .at) (omega (arith, c .before .before .before .before .before .before .map-bytes .ensures)) (each-fails 16 (bitGood (a .kind) (a .clocks) (mapOf (a .kind) (a .s .now) (a .at))) (l .b) (search needs) (cc (not-true (c .before .bit-good .result) (c .if2 .taken))))
+    bad-bit (a .kind) (a .clocks) (a .s .now) (a .at) (omega (arith, c .before .before .before .before .before .before .map-bytes .ensures)) (each-fails 16 (bitGood (a .kind) (a .clocks) (mapOf (a .kind) (a .s .now) (a .at))) (l .b) (search needs) (denied _ _ (c .before .bit-good .ensures ∙ ap (λ (m : ℕ). bitGood (a .kind) (a .clocks) m (l .b)) (c .before .before .before .before .map-of .ensures)) (c .if2 .taken)))
 
 returns-3 : tie.Need-returns-3 Inv-loop μ-loop Inv-map μ-map
 returns-3 c =

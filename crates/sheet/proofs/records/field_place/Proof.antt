@@ -1,4 +1,7 @@
 -- No record's head is above 4 bytes, and no place above 18.
+use mathlib.Core.Path.{ap, ap₂, _∙_}
+use Prim.Native.Nat.{ℕ, _+_}
+use Rattle.sheet.specs.Maps.{placeOf}
 use borrow.Author.Needs.{needs}
 use native.Mathlib.Omega.{arith}
 use Rattle.sheet.specs.Records.{fieldPlace}
@@ -24,7 +27,10 @@ add-result-2 c = omega (arith, c .before .before .head-bytes .ensures, head-le (
 
 returns : tie.Need-returns
 unfolding fieldPlace
-returns c = cc
+returns c =
+    let a = c .before .before .before .before .args in
+    ap₂ (λ (h p : ℕ). a .at + h + p) (c .before .before .head-bytes .ensures)
+    (c .place .ensures ∙ ap (λ (m : ℕ). placeOf m (a .b)) (c .before .map-of .ensures))
 
 pub field-place-spec : {M : Type 1} → statement M
 field-place-spec =

@@ -1,4 +1,7 @@
 -- The place past the last bit, after the head.
+use mathlib.Core.Path.{ap, ap₂, _∙_}
+use Prim.Native.Nat.{ℕ, _+_}
+use Rattle.sheet.specs.Maps.{placeOf}
 use borrow.Author.Needs.{needs}
 use native.Mathlib.Omega.{arith}
 use Rattle.sheet.specs.Records.{recordLength}
@@ -21,7 +24,8 @@ add-result c = omega (arith, c .before .before .head-bytes .ensures, head-le (c 
 
 returns : tie.Need-returns
 unfolding recordLength
-returns c = cc
+returns c =
+    ap₂ _+_ (c .before .before .head-bytes .ensures) (c .place .ensures ∙ ap (λ (m : ℕ). placeOf m 16) (c .before .map-of .ensures))
 
 pub record-length-spec : {M : Type 1} → statement M
 record-length-spec =
