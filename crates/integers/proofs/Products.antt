@@ -2,7 +2,7 @@
 use mathlib.Core.Path.{_≡_, refl, sym, ap, ap₂, _∙_}
 use Prim.Native.Nat.{ℕ, suc, _+_, _*_, _≤_, _<_}
 use native.Mathlib.Omega.{arith}
-use native.Mathlib.Nat.{mul-zero, mul-add, mul-suc, mul-le-mul-left}
+use native.Mathlib.Nat.{mul-zero, mul-add, mul-suc, mul-left-comm, mul-le-mul-left}
 use native.Mathlib.Decide.{decLe}
 use lib.IntN.{ℤ, pos, negsuc, negℤ, natAbs, _+ℤ_, _*ℤ_, *ℤ-comm, sucℤ-*ℤ}
 use lib.Signed.{_≤ℤ_}
@@ -34,6 +34,17 @@ dn-times n (negsuc m) = neg-dn (pos (n * suc m))
 
 pub times-suc : (n : ℕ) (c : ℤ) → pos (suc n) *ℤ c ≡ pos n *ℤ c +ℤ c
 times-suc n c = sucℤ-*ℤ (pos n) c
+
+pub times-swap : (a b : ℕ) (z : ℤ) → pos a *ℤ (pos b *ℤ z) ≡ pos b *ℤ (pos a *ℤ z)
+times-swap a b z = ext (pos a *ℤ (pos b *ℤ z)) (pos b *ℤ (pos a *ℤ z)) (omega (
+  arith,
+  up-times a (pos b *ℤ z) ∙ ap (λ (k : ℕ). a * k) (up-times b z),
+  dn-times a (pos b *ℤ z) ∙ ap (λ (k : ℕ). a * k) (dn-times b z),
+  up-times b (pos a *ℤ z) ∙ ap (λ (k : ℕ). b * k) (up-times a z),
+  dn-times b (pos a *ℤ z) ∙ ap (λ (k : ℕ). b * k) (dn-times a z),
+  mul-left-comm a b (up z),
+  mul-left-comm a b (dn z),
+))
 
 -- ---- distributivity
 

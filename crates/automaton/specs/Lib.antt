@@ -1,0 +1,12 @@
+pub mod Tests
+pub mod Bounds
+pub mod Ranks
+pub mod Automaton
+pub mod Priced
+pub mod Nodes
+pub mod Steps
+pub mod Walks
+pub mod Runs
+pub mod Loops
+pub mod Weights
+pub mod Ratios

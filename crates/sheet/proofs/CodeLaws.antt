@@ -1,0 +1,149 @@
+-- Each question by its answer.
+use mathlib.Core.Path.{_≡_, sym, ap, _∙_}
+use mathlib.Core.Bool.{Bool, true, false}
+use mathlib.Core.List.{List}
+use Prim.Native.Nat.{ℕ, _+_, _≤_, _<_}
+use borrow.Author.Tests.{lt-leb, le-leb, lt-ltb, le-ltb, eq-eqb, ne-eqb}
+use lib.Dec.{eqb}
+use lib.ListN.{length}
+use Rattle.sheet.specs.Bytes.{byteAt}
+use Rattle.sheet.specs.Maps.{bitOf, stands}
+use Rattle.sheet.specs.Fields.{first, within, fieldOf, permittedField, inRange}
+use Rattle.sheet.specs.Records.{mapBytes, mapOf, fieldPlace, valueAt, recordLength, recordAt, locationAt, locationsIn, clocksIn, edgesIn}
+use Rattle.sheet.specs.Questions.{ask, orElse, each, firstOf, whereThere, bitGood, mapCode, fieldGood, endsCode, locationCode, edgeCode, startCode, recordsCode, checkOf}
+use Rattle.sheet.specs.declared.fields.Kind.{Kind}
+use Rattle.sheet.specs.declared.fields.Kind.the-variants.{EdgeRecord}
+use Rattle.sheet.proofs.RecordLaws.{absent, there}
+use Rattle.sheet.proofs.QuestionLaws.{or-zero, or-first, first-is}
+
+pub clear : (m b : ℕ) → bitOf m b ≡ 0 → stands m b ≡ false
+clear m b h = simp (eq-eqb _ _ h)
+
+pub set-bit : (m b : ℕ) → (bitOf m b ≡ 0 → ⊥) → stands m b ≡ true
+set-bit m b h = simp (ne-eqb _ _ h)
+
+-- ---- questions 5 and 6
+
+pub bit-clear : (kind : Kind) (k m b : ℕ) → bitOf m b ≡ 0 → bitGood kind k m b ≡ true
+unfolding bitGood
+bit-clear kind k m b h = simp (eq-eqb _ _ h)
+
+pub bit-is : (kind : Kind) (k m b : ℕ) → (bitOf m b ≡ 0 → ⊥) → bitGood kind k m b ≡ permittedField k (fieldOf first kind b)
+unfolding bitGood
+bit-is kind k m b h = simp (ne-eqb _ _ h)
+
+module _ (kind : Kind) (k : ℕ) (s : List ℕ) (at : ℕ) where
+  pub no-map : length s < at + mapBytes kind → 5 ≡ mapCode kind k s at
+  unfolding mapCode
+  no-map h = simp (lt-leb _ _ h)
+
+  module _ (map-there : at + mapBytes kind ≤ length s) where
+    pub bad-bit : each 16 (bitGood kind k (mapOf kind s at)) ≡ false → 6 ≡ mapCode kind k s at
+    unfolding mapCode
+    bad-bit h = simp (le-leb _ _ map-there, h)
+
+    module _ (bits-good : each 16 (bitGood kind k (mapOf kind s at)) ≡ true) where
+      pub no-fields : length s < at + recordLength kind s at → 5 ≡ mapCode kind k s at
+      unfolding mapCode
+      no-fields h = simp (le-leb _ _ map-there, bits-good, lt-leb _ _ h)
+
+      pub map-good : at + recordLength kind s at ≤ length s → 0 ≡ mapCode kind k s at
+      unfolding mapCode
+      map-good h = simp (le-leb _ _ map-there, bits-good, le-leb _ _ h)
+
+  -- ---- question 8
+
+  pub no-field : (b : ℕ) → bitOf (mapOf kind s at) b ≡ 0 → fieldGood kind k s at b ≡ true
+  unfolding fieldGood
+  no-field b h = ap (whereThere (inRange k (fieldOf first kind b))) (absent kind s at b h)
+
+  pub field-is : (b : ℕ) → (bitOf (mapOf kind s at) b ≡ 0 → ⊥)
+      → fieldGood kind k s at b ≡ inRange k (fieldOf first kind b) (valueAt s (fieldPlace kind s at b) b)
+  unfolding fieldGood
+  field-is b h = ap (whereThere (inRange k (fieldOf first kind b))) (there kind s at b h)
+
+-- ---- question 9
+
+module _ (l : ℕ) (s : List ℕ) (at : ℕ) where
+  pub no-source : l ≤ byteAt s (at + 2) → 9 ≡ endsCode l s at
+  unfolding endsCode
+  no-source h = simp (le-ltb _ _ h)
+
+  pub no-target : byteAt s (at + 2) < l → l ≤ byteAt s (at + 3) → 9 ≡ endsCode l s at
+  unfolding endsCode
+  no-target h k = simp (lt-ltb _ _ h, le-ltb _ _ k)
+
+  pub ends-there : byteAt s (at + 2) < l → byteAt s (at + 3) < l → 0 ≡ endsCode l s at
+  unfolding endsCode
+  ends-there h k = simp (lt-ltb _ _ h, lt-ltb _ _ k)
+
+-- ---- each record in turn, and what follows the last
+
+module _ (k l e : ℕ) (s : List ℕ) where
+  abbrev pub ofLocation : ℕ → ℕ
+  ofLocation i = locationCode k s (locationAt s i)
+
+  abbrev pub ofEdge : ℕ → ℕ
+  ofEdge i = edgeCode k l s (recordAt EdgeRecord s (locationAt s l) i)
+
+  afterEdges : ℕ
+  afterEdges = ask 10 (eqb (recordAt EdgeRecord s (locationAt s l) e) (length s)) (startCode k s)
+
+  pub location-refused : (i : ℕ) → i < l → firstOf i ofLocation ≡ 0 → (ofLocation i ≡ 0 → ⊥) → ofLocation i ≡ recordsCode k l e s
+  unfolding recordsCode afterEdges
+  location-refused i h z n =
+      let d : firstOf l ofLocation ≡ ofLocation i = first-is l ofLocation i h z n in
+      sym (or-first (firstOf l ofLocation) (orElse (firstOf e ofEdge) afterEdges) (λ q. n (sym d ∙ q)) ∙ d)
+
+  module _ (locations-pass : firstOf l ofLocation ≡ 0) where
+    pub edge-refused : (i : ℕ) → i < e → firstOf i ofEdge ≡ 0 → (ofEdge i ≡ 0 → ⊥) → ofEdge i ≡ recordsCode k l e s
+    unfolding recordsCode afterEdges
+    edge-refused i h z n =
+        let d : firstOf e ofEdge ≡ ofEdge i = first-is e ofEdge i h z n in
+        sym (or-zero (firstOf l ofLocation) (orElse (firstOf e ofEdge) afterEdges) locations-pass
+        ∙ or-first (firstOf e ofEdge) afterEdges (λ q. n (sym d ∙ q)) ∙ d)
+
+    module _ (edges-pass : firstOf e ofEdge ≡ 0) where
+      records-pass : afterEdges ≡ recordsCode k l e s
+      unfolding recordsCode afterEdges
+      records-pass = sym (or-zero (firstOf l ofLocation) (orElse (firstOf e ofEdge) afterEdges) locations-pass
+          ∙ or-zero (firstOf e ofEdge) afterEdges edges-pass)
+
+      pub bytes-left : (recordAt EdgeRecord s (locationAt s l) e ≡ length s → ⊥) → 10 ≡ recordsCode k l e s
+      unfolding afterEdges
+      bytes-left n = sym (ap (λ (t : Bool). ask 10 t (startCode k s)) (ne-eqb _ _ n)) ∙ records-pass
+
+      pub all-used : recordAt EdgeRecord s (locationAt s l) e ≡ length s → startCode k s ≡ recordsCode k l e s
+      unfolding afterEdges
+      all-used h = sym (ap (λ (t : Bool). ask 10 t (startCode k s)) (eq-eqb _ _ h)) ∙ records-pass
+
+-- ---- questions 2 to 4
+
+module _ (s : List ℕ) where
+  pub bad-length : within (length s) 4 580 ≡ false → 2 ≡ checkOf s
+  unfolding checkOf
+  bad-length h = simp h
+
+  module _ (h : within (length s) 4 580 ≡ true) where
+    pub bad-edition : (byteAt s 0 ≡ 1 → ⊥) → 3 ≡ checkOf s
+    unfolding checkOf
+    bad-edition i = simp (h, ne-eqb _ _ i)
+
+    module _ (i : byteAt s 0 ≡ 1) where
+      pub bad-locations : within (locationsIn s) 1 12 ≡ false → 4 ≡ checkOf s
+      unfolding checkOf
+      bad-locations a = simp (h, eq-eqb _ _ i, a)
+
+      module _ (a : within (locationsIn s) 1 12 ≡ true) where
+        pub bad-clocks : within (clocksIn s) 1 3 ≡ false → 4 ≡ checkOf s
+        unfolding checkOf
+        bad-clocks b = simp (h, eq-eqb _ _ i, a, b)
+
+        module _ (b : within (clocksIn s) 1 3 ≡ true) where
+          pub bad-edges : within (edgesIn s) 0 32 ≡ false → 4 ≡ checkOf s
+          unfolding checkOf
+          bad-edges c = simp (h, eq-eqb _ _ i, a, b, c)
+
+          pub header-good : within (edgesIn s) 0 32 ≡ true → recordsCode (clocksIn s) (locationsIn s) (edgesIn s) s ≡ checkOf s
+          unfolding checkOf
+          header-good c = simp (h, eq-eqb _ _ i, a, b, c)

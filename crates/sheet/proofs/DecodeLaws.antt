@@ -1,0 +1,29 @@
+-- Filling a list of records from the front.
+use mathlib.Core.Path.{_≡_, sym, ap, _∙_}
+use Prim.Native.Nat.{ℕ, zero, suc, _+_, _≤_, _<_}
+use native.Mathlib.Decide.{ℕ-discrete}
+use native.Mathlib.Numerals.{add-one}
+use native.Mathlib.Omega.{arith}
+use lib.ListN.{length, getD, set, length-set, length-replicate}
+use lib.Seq.{getD-set-same, getD-set-other}
+use Rattle.sheet.specs.Decoded.{filled}
+
+module _ {A : Type 0} (f : ℕ → A) (d : A) (n : ℕ) where
+  pub filled-more : (i : ℕ) → set (filled f d n i) i (f i) ≡ filled f d n (i + 1)
+  unfolding filled
+  filled-more i = sym (ap (filled f d n) (add-one i))
+
+  pub filled-length : (i : ℕ) → length (filled f d n i) ≡ n
+  unfolding filled
+  filled-length zero = length-replicate n d
+  filled-length (suc i) = simp length-set (filled-length i)
+
+  -- what stands at k, of the first i
+  pub filled-at : (i k : ℕ) → i ≤ n → k < i → getD (filled f d n i) k d ≡ f k
+  unfolding filled
+  filled-at zero k h l = absurd (omega arith)
+  filled-at (suc i) k h l = elim (ℕ-discrete k i) [
+    | yes e ↦ ap (λ (j : ℕ). getD (set (filled f d n i) i (f i)) j d) e
+        ∙ getD-set-same (filled f d n i) i (f i) d (omega (arith, filled-length i)) ∙ ap f (sym e)
+    | no e ↦ getD-set-other (filled f d n i) i k (f i) d e ∙ filled-at i k (omega arith) (omega arith)
+  ]

@@ -1,0 +1,163 @@
+-- Every record before the one in hand has passed.
+use mathlib.Core.Path.{_≡_, refl, sym, ap, ap₂, _∙_}
+use Prim.Native.Nat.{ℕ, _+_, _-_, _≤_}
+use Rattle.sheet.specs.Records.{recordAt, recordLength, locationAt}
+use Rattle.sheet.specs.Questions.{firstOf, locationCode, edgeCode}
+use borrow.Author.Needs.{needs}
+use native.Mathlib.Omega.{arith}
+use Rattle.sheet.specs.declared.fields.Kind.the-variants.{LocationRecord, EdgeRecord}
+use Rattle.sheet.proofs.RecordLaws.{at-le, at-more, length-le}
+use Rattle.sheet.proofs.QuestionLaws.{first-none, first-more}
+use Rattle.sheet.proofs.CodeLaws.{ofLocation, ofEdge, location-refused, edge-refused, bytes-left, all-used}
+use Rattle.sheet.proofs.questions.records_code.Statement.{statement}
+use Rattle.sheet.proofs.questions.records_code.Tie as tie
+
+abbrev Inv-loop : tie.InvT-loop
+Inv-loop s clocks locations edges at₀ i₀ at i = (i ≤ locations) × ((at ≡ locationAt s i) × (firstOf i (ofLocation clocks locations edges s) ≡ 0))
+
+abbrev μ-loop : tie.MeasureT-loop
+μ-loop s clocks locations edges at₀ i₀ at i = locations - i
+
+abbrev Inv-loop2 : tie.InvT-loop2
+Inv-loop2 s clocks locations edges at₀ e₀ at e = (e ≤ edges) × ((at ≡ recordAt EdgeRecord s (locationAt s locations) e) × ((firstOf locations (ofLocation clocks locations edges s) ≡ 0) × (firstOf e (ofEdge clocks locations edges s) ≡ 0)))
+
+abbrev μ-loop2 : tie.MeasureT-loop2
+μ-loop2 s clocks locations edges at₀ e₀ at e = edges - e
+
+abbrev Inv-records : tie.InvT-records
+Inv-records s clocks locations edges at₀ at = at ≡ 4
+
+abbrev μ-records : tie.MeasureT-records
+μ-records s clocks locations edges at₀ at = 0
+
+records-holds : tie.Need-records-holds Inv-loop μ-loop Inv-loop2 μ-loop2 Inv-records μ-records
+records-holds c = refl
+
+loop-holds : tie.Need-loop-holds Inv-loop μ-loop Inv-loop2 μ-loop2 Inv-records μ-records
+unfolding recordAt
+loop-holds c = (search needs, (c .records .inv, first-none (ofLocation (c .before .before .args .clocks) (c .before .before .args .locations) (c .before .before .args .edges) (c .before .before .args .s .now))))
+
+location-code-requires :
+    tie.Need-location-code-requires Inv-loop μ-loop Inv-loop2 μ-loop2 Inv-records μ-records
+location-code-requires c κs = omega (arith, at-le LocationRecord (c .before .before .before .before .args .s .now) 4 (c .before .loop .i))
+
+record-length-requires :
+    tie.Need-record-length-requires Inv-loop μ-loop Inv-loop2 μ-loop2 Inv-records μ-records
+record-length-requires c κs = omega (arith, at-le LocationRecord (c .before .before .before .before .before .before .args .s .now) 4 (c .before .before .before .loop .i))
+
+add-at : tie.Need-add-at Inv-loop μ-loop Inv-loop2 μ-loop2 Inv-records μ-records
+add-at c = omega (arith, c .record-length .ensures, length-le LocationRecord (c .before .before .before .before .before .before .before .args .s .now) (c .before .before .before .before .loop .at), at-le LocationRecord (c .before .before .before .before .before .before .before .args .s .now) 4 (c .before .before .before .before .loop .i))
+
+add-i : tie.Need-add-i Inv-loop μ-loop Inv-loop2 μ-loop2 Inv-records μ-records
+add-i c = search needs
+
+loop-less : tie.Need-loop-less Inv-loop μ-loop Inv-loop2 μ-loop2 Inv-records μ-records
+loop-less c = search needs
+
+loop-again : tie.Need-loop-again Inv-loop μ-loop Inv-loop2 μ-loop2 Inv-records μ-records
+loop-again c =
+    let l = c .before .before .before .before .loop in (
+      search needs,
+      (
+        ap₂ _+_ (l .inv .1 .0) (c .record-length .ensures ∙ ap (recordLength LocationRecord (c .before .before .before .before .before .before .before .args .s .now)) (l .inv .1 .0)) ∙ sym (at-more LocationRecord (c .before .before .before .before .before .before .before .args .s .now) 4 (l .i)),
+        first-more (l .i) (ofLocation (c .before .before .before .before .before .before .before .args .clocks) (c .before .before .before .before .before .before .before .args .locations) (c .before .before .before .before .before .before .before .args .edges) (c .before .before .before .before .before .before .before .args .s .now)) (l .inv .1 .1) (ap (locationCode (c .before .before .before .before .before .before .before .args .clocks) (c .before .before .before .before .before .before .before .args .s .now)) (sym (l .inv .1 .0)) ∙ sym (c .before .before .location-code .ensures) ∙ c .before .if1 .left),
+      ),
+    )
+
+loop2-holds : tie.Need-loop2-holds Inv-loop μ-loop Inv-loop2 μ-loop2 Inv-records μ-records
+unfolding recordAt
+loop2-holds c =
+    let l = c .before .loop in
+    let e : l .i ≡ c .before .before .before .before .args .locations = omega arith in
+    (search needs, (l .inv .1 .0 ∙ ap (recordAt LocationRecord (c .before .before .before .before .args .s .now) 4) e, (ap (λ (n : ℕ). firstOf n (ofLocation (c .before .before .before .before .args .clocks) (c .before .before .before .before .args .locations) (c .before .before .before .before .args .edges) (c .before .before .before .before .args .s .now))) (sym e) ∙ l .inv .1 .1, first-none (ofEdge (c .before .before .before .before .args .clocks) (c .before .before .before .before .args .locations) (c .before .before .before .before .args .edges) (c .before .before .before .before .args .s .now)))))
+
+edge-code-requires :
+    tie.Need-edge-code-requires Inv-loop μ-loop Inv-loop2 μ-loop2 Inv-records μ-records
+edge-code-requires c κs = omega (arith, at-le EdgeRecord (c .before .before .before .before .before .before .args .s .now) (locationAt (c .before .before .before .before .before .before .args .s .now) (c .before .before .before .before .before .before .args .locations)) (c .before .loop2 .e), at-le LocationRecord (c .before .before .before .before .before .before .args .s .now) 4 (c .before .before .before .before .before .before .args .locations))
+
+record-length-requires-2 :
+    tie.Need-record-length-requires-2 Inv-loop μ-loop Inv-loop2 μ-loop2 Inv-records μ-records
+record-length-requires-2 c κs = omega (arith, at-le EdgeRecord (c .before .before .before .before .before .before .before .before .args .s .now) (locationAt (c .before .before .before .before .before .before .before .before .args .s .now) (c .before .before .before .before .before .before .before .before .args .locations)) (c .before .before .before .loop2 .e), at-le LocationRecord (c .before .before .before .before .before .before .before .before .args .s .now) 4 (c .before .before .before .before .before .before .before .before .args .locations))
+
+add-at-2 : tie.Need-add-at-2 Inv-loop μ-loop Inv-loop2 μ-loop2 Inv-records μ-records
+add-at-2 c = omega (arith, c .record-length2 .ensures, length-le EdgeRecord (c .before .before .before .before .before .before .before .before .before .args .s .now) (c .before .before .before .before .loop2 .at), at-le EdgeRecord (c .before .before .before .before .before .before .before .before .before .args .s .now) (locationAt (c .before .before .before .before .before .before .before .before .before .args .s .now) (c .before .before .before .before .before .before .before .before .before .args .locations)) (c .before .before .before .before .loop2 .e), at-le LocationRecord (c .before .before .before .before .before .before .before .before .before .args .s .now) 4 (c .before .before .before .before .before .before .before .before .before .args .locations))
+
+add-e : tie.Need-add-e Inv-loop μ-loop Inv-loop2 μ-loop2 Inv-records μ-records
+add-e c = search needs
+
+loop2-less : tie.Need-loop2-less Inv-loop μ-loop Inv-loop2 μ-loop2 Inv-records μ-records
+loop2-less c = search needs
+
+loop2-again : tie.Need-loop2-again Inv-loop μ-loop Inv-loop2 μ-loop2 Inv-records μ-records
+loop2-again c =
+    let l = c .before .before .before .before .loop2 in (
+      search needs,
+      (
+        ap₂ _+_ (l .inv .1 .0) (c .record-length2 .ensures ∙ ap (recordLength EdgeRecord (c .before .before .before .before .before .before .before .before .before .args .s .now)) (l .inv .1 .0)) ∙ sym (at-more EdgeRecord (c .before .before .before .before .before .before .before .before .before .args .s .now) (locationAt (c .before .before .before .before .before .before .before .before .before .args .s .now) (c .before .before .before .before .before .before .before .before .before .args .locations)) (l .e)),
+        (
+          l .inv .1 .1 .0,
+          first-more (l .e) (ofEdge (c .before .before .before .before .before .before .before .before .before .args .clocks) (c .before .before .before .before .before .before .before .before .before .args .locations) (c .before .before .before .before .before .before .before .before .before .args .edges) (c .before .before .before .before .before .before .before .before .before .args .s .now)) (l .inv .1 .1 .1) (ap (edgeCode (c .before .before .before .before .before .before .before .before .before .args .clocks) (c .before .before .before .before .before .before .before .before .before .args .locations) (c .before .before .before .before .before .before .before .before .before .args .s .now)) (sym (l .inv .1 .0)) ∙ sym (c .before .before .edge-code .ensures) ∙ c .before .if2 .left),
+        ),
+      ),
+    )
+
+start-code-requires :
+    tie.Need-start-code-requires Inv-loop μ-loop Inv-loop2 μ-loop2 Inv-records μ-records
+start-code-requires c κs = search needs
+
+returns : tie.Need-returns Inv-loop μ-loop Inv-loop2 μ-loop2 Inv-records μ-records
+returns c =
+    let l = c .before .before .before .loop in
+    let p = c .before .location-code .ensures ∙ ap (locationCode (c .before .before .before .before .before .before .args .clocks) (c .before .before .before .before .before .before .args .s .now)) (l .inv .1 .0) in
+    p ∙ location-refused (c .before .before .before .before .before .before .args .clocks) (c .before .before .before .before .before .before .args .locations) (c .before .before .before .before .before .before .args .edges) (c .before .before .before .before .before .before .args .s .now) (l .i) (search needs) (l .inv .1 .1) (λ e. c .if1 .taken (p ∙ e))
+
+returns-2 : tie.Need-returns-2 Inv-loop μ-loop Inv-loop2 μ-loop2 Inv-records μ-records
+returns-2 c =
+    let l = c .before .before .before .loop2 in
+    let p = c .before .edge-code .ensures ∙ ap (edgeCode (c .before .before .before .before .before .before .before .before .args .clocks) (c .before .before .before .before .before .before .before .before .args .locations) (c .before .before .before .before .before .before .before .before .args .s .now)) (l .inv .1 .0) in
+    p ∙ edge-refused (c .before .before .before .before .before .before .before .before .args .clocks) (c .before .before .before .before .before .before .before .before .args .locations) (c .before .before .before .before .before .before .before .before .args .edges) (c .before .before .before .before .before .before .before .before .args .s .now) (l .inv .1 .1 .0) (l .e) (search needs) (l .inv .1 .1 .1) (λ e. c .if2 .taken (p ∙ e))
+
+returns-3 : tie.Need-returns-3 Inv-loop μ-loop Inv-loop2 μ-loop2 Inv-records μ-records
+returns-3 c =
+    let l = c .before .before .loop2 in
+    let e : c .before .before .before .before .before .before .before .args .edges ≡ l .e = omega arith in
+    bytes-left (c .before .before .before .before .before .before .before .args .clocks) (c .before .before .before .before .before .before .before .args .locations) (c .before .before .before .before .before .before .before .args .edges) (c .before .before .before .before .before .before .before .args .s .now) (l .inv .1 .1 .0) (ap (λ (n : ℕ). firstOf n (ofEdge (c .before .before .before .before .before .before .before .args .clocks) (c .before .before .before .before .before .before .before .args .locations) (c .before .before .before .before .before .before .before .args .edges) (c .before .before .before .before .before .before .before .args .s .now))) e ∙ l .inv .1 .1 .1)
+    (λ q. c .if3 .taken (l .inv .1 .0 ∙ ap (recordAt EdgeRecord (c .before .before .before .before .before .before .before .args .s .now) (locationAt (c .before .before .before .before .before .before .before .args .s .now) (c .before .before .before .before .before .before .before .args .locations))) (sym e) ∙ q))
+
+returns-4 : tie.Need-returns-4 Inv-loop μ-loop Inv-loop2 μ-loop2 Inv-records μ-records
+returns-4 c =
+    let l = c .before .before .before .loop2 in
+    let e : c .before .before .before .before .before .before .before .before .args .edges ≡ l .e = omega arith in
+    c .start-code .ensures ∙ all-used (c .before .before .before .before .before .before .before .before .args .clocks) (c .before .before .before .before .before .before .before .before .args .locations) (c .before .before .before .before .before .before .before .before .args .edges) (c .before .before .before .before .before .before .before .before .args .s .now) (l .inv .1 .1 .0) (ap (λ (n : ℕ). firstOf n (ofEdge (c .before .before .before .before .before .before .before .before .args .clocks) (c .before .before .before .before .before .before .before .before .args .locations) (c .before .before .before .before .before .before .before .before .args .edges) (c .before .before .before .before .before .before .before .before .args .s .now))) e ∙ l .inv .1 .1 .1)
+    (ap (recordAt EdgeRecord (c .before .before .before .before .before .before .before .before .args .s .now) (locationAt (c .before .before .before .before .before .before .before .before .args .s .now) (c .before .before .before .before .before .before .before .before .args .locations))) e ∙ sym (l .inv .1 .0) ∙ c .before .if3 .left)
+
+pub records-code-spec : {M : Type 1} → statement M
+records-code-spec =
+    tie.close
+    (tie.spec
+    Inv-loop
+    μ-loop
+    Inv-loop2
+    μ-loop2
+    Inv-records
+    μ-records
+    records-holds
+    loop-holds
+    location-code-requires
+    record-length-requires
+    add-at
+    add-i
+    loop-less
+    loop-again
+    loop2-holds
+    edge-code-requires
+    record-length-requires-2
+    add-at-2
+    add-e
+    loop2-less
+    loop2-again
+    start-code-requires
+    returns
+    returns-2
+    returns-3
+    returns-4)

@@ -1,0 +1,40 @@
+-- Absent, or the word at its place.
+use mathlib.Core.Path.{sym, ap, _∙_}
+use Prim.Native.Nat.{ℕ}
+use Rattle.sheet.specs.Maps.{bitOf}
+use Rattle.sheet.specs.Records.{fieldPlace}
+use Rattle.sheet.specs.Bytes.{wordAt}
+use mathlib.Core.Option.{Option·getD}
+use borrow.Author.Needs.{needs}
+use native.Mathlib.Omega.{arith}
+use Rattle.sheet.proofs.RecordLaws.{absent, there, place-bound, value-word}
+use Rattle.sheet.proofs.records.price.Statement.{statement}
+use Rattle.sheet.proofs.records.price.Tie as tie
+
+map-of-requires : tie.Need-map-of-requires
+map-of-requires c κs = search needs
+
+bit-requires : tie.Need-bit-requires
+bit-requires c κs = search needs
+
+returns : tie.Need-returns
+returns c =
+    let a = c .before .before .before .before .args in
+    ap (λ o. Option·getD o 0) (sym (absent (a .kind) (a .s .now) (a .at) (a .b) (sym (c .before .bit .ensures ∙ ap (λ (m : ℕ). bitOf m (a .b)) (c .before .before .map-of .ensures)) ∙ c .if1 .taken)))
+
+field-place-requires : tie.Need-field-place-requires
+field-place-requires c κs = search needs
+
+word-requires : tie.Need-word-requires
+word-requires c κs = omega (arith, c .field-place .ensures, place-bound (c .before .before .before .before .before .args .kind) (c .before .before .before .before .before .args .s .now) (c .before .before .before .before .before .args .at) (c .before .before .before .before .before .args .b))
+
+returns-2 : tie.Need-returns-2
+returns-2 c =
+    let a = c .before .before .before .before .before .before .args in
+    c .word .ensures ∙ ap (wordAt (a .s .now)) (c .before .field-place .ensures)
+    ∙ sym (ap (λ o. Option·getD o 0) (there (a .kind) (a .s .now) (a .at) (a .b) (λ z. c .before .before .if1 .left (c .before .before .before .bit .ensures ∙ ap (λ (m : ℕ). bitOf m (a .b)) (c .before .before .before .before .map-of .ensures) ∙ z))) ∙ value-word (a .s .now) (fieldPlace (a .kind) (a .s .now) (a .at) (a .b)) (a .b) (omega arith))
+
+pub price-spec : {M : Type 1} → statement M
+price-spec =
+    tie.close
+    (tie.spec map-of-requires bit-requires returns field-place-requires word-requires returns-2)

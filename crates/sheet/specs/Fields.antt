@@ -1,0 +1,64 @@
+-- What the bits of a map stand for, and the values that may stand there.
+use mathlib.Core.Bool.{Bool, true, false, not, cond, _&&_}
+use Prim.Native.Nat.{ℕ, _+_, _-_, _^_}
+use lib.Dec.{ltb, leb, eqb}
+use lib.IntN.{ℤ, natAbs}
+use Rattle.sheet.specs.Bytes.{signedOf}
+use Rattle.sheet.specs.declared.fields.Kind.{Kind}
+use Rattle.sheet.specs.declared.fields.Kind.the-variants.{LocationRecord, EdgeRecord}
+use Rattle.sheet.specs.declared.fields.Field.{Field}
+use Rattle.sheet.specs.declared.fields.Field.the-variants.{Cost, Reward, Reset, Lower, Upper, Unused}
+
+-- where an edition has the bits of clock 0, those of the others following, and how many clocks it has at most
+pub record Edition : Type 0 where
+  pub clocks : ℕ
+  pub bound : ℕ
+  pub lower : ℕ
+  pub upper : ℕ
+
+-- "Bits 2 to 4: upper bound of clocks 0 to 2"; "Bits 3 to 5: lower guard of clocks 0 to 2. Bits 6 to 8: upper guard of clocks 0 to 2."
+abbrev pub first : Edition
+first = record { clocks = 3; bound = 2; lower = 3; upper = 6 }
+
+-- v is from low to high
+abbrev pub within : ℕ → ℕ → ℕ → Bool
+within v low high = leb low v && leb v high
+
+-- bit b is one of the clocks' bits from `from` on
+abbrev pub ofClock : Edition → ℕ → ℕ → Bool
+ofClock y from b = leb from b && ltb b (from + y .clocks)
+
+-- "Bit 0: cost. Bit 1: reward." Bit 2 of an edge: "reset mask, one byte, bit j for clock j."
+unfoldable pub fieldOf : Edition → Kind → ℕ → Field
+fieldOf y LocationRecord b =
+    cond (eqb b 0) Cost
+    (cond (eqb b 1) Reward
+    (cond (ofClock y (y .bound) b) (Upper (b - y .bound)) Unused))
+fieldOf y EdgeRecord b =
+    cond (eqb b 0) Cost
+    (cond (eqb b 1) Reward
+    (cond (eqb b 2) Reset
+    (cond (ofClock y (y .lower) b) (Lower (b - y .lower))
+    (cond (ofClock y (y .upper) b) (Upper (b - y .upper)) Unused))))
+
+-- "Other bits, and bits of clocks from K on, stay clear."
+unfoldable pub permittedField : ℕ → Field → Bool
+permittedField k Cost = true
+permittedField k Reward = true
+permittedField k Reset = true
+permittedField k (Lower j) = ltb j k
+permittedField k (Upper j) = ltb j k
+permittedField k Unused = false
+
+-- "cost not 0", and "Costs are −10,000 to 10,000"
+unfoldable pub costInRange : ℤ → Bool
+costInRange z = not (eqb (natAbs z) 0) && leb (natAbs z) 10000
+
+-- "cost not 0, reward 1 to 10,000, mask 1 to 2^K − 1, upper 0 to 25, lower 1 to 25"
+unfoldable pub inRange : ℕ → Field → ℕ → Bool
+inRange k Cost v = costInRange (signedOf v)
+inRange k Reward v = within v 1 10000
+inRange k Reset v = within v 1 (2 ^ k - 1)
+inRange k (Lower j) v = within v 1 25
+inRange k (Upper j) v = within v 0 25
+inRange k Unused v = false

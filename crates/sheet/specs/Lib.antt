@@ -1,0 +1,6 @@
+pub mod Bytes
+pub mod Maps
+pub mod Fields
+pub mod Records
+pub mod Questions
+pub mod Decoded

@@ -1,0 +1,90 @@
+-- The questions put to a sheet. "Reading stops at the first question answered no, with that number."
+use mathlib.Core.Bool.{Bool, true, not, cond, _&&_, _||_}
+use mathlib.Core.List.{List}
+use mathlib.Core.Option.{Option, none, some}
+use Prim.Native.Nat.{ℕ, zero, suc, _+_}
+use lib.Dec.{ltb, leb, eqb}
+use lib.ListN.{length}
+use Rattle.sheet.specs.Bytes.{byteAt}
+use Rattle.sheet.specs.Maps.{stands}
+use Rattle.sheet.specs.Fields.{first, within, fieldOf, permittedField, inRange}
+use Rattle.sheet.specs.Records.{mapBytes, mapOf, fieldAt, boundAt, recordLength, recordAt, locationAt, locationsIn, clocksIn, edgesIn}
+use Rattle.sheet.specs.declared.fields.Kind.{Kind}
+use Rattle.sheet.specs.declared.fields.Kind.the-variants.{LocationRecord, EdgeRecord}
+
+-- the number of question n where its answer is no, else what comes after it
+abbrev pub ask : ℕ → Bool → ℕ → ℕ
+ask n answer after = cond answer after n
+
+-- a number, or where it is 0 another
+abbrev pub orElse : ℕ → ℕ → ℕ
+orElse a b = cond (eqb a 0) b a
+
+-- each number below n passes the test
+unfoldable pub each : ℕ → (ℕ → Bool) → Bool
+each zero p = true
+each (suc n) p = each n p && p n
+
+-- the first of f 0 to f (n - 1) that is not 0, or 0
+unfoldable pub firstOf : ℕ → (ℕ → ℕ) → ℕ
+firstOf zero f = 0
+firstOf (suc n) f = orElse (firstOf n f) (f n)
+
+-- an absent field passes every test
+abbrev pub whereThere : (ℕ → Bool) → Option ℕ → Bool
+whereThere p none = true
+whereThere p (some v) = p v
+
+-- bit b of a map m is clear, or permitted
+unfoldable pub bitGood : Kind → ℕ → ℕ → ℕ → Bool
+bitGood kind k m b = not (stands m b) || permittedField k (fieldOf first kind b)
+
+module _ (kind : Kind) (k : ℕ) (s : List ℕ) (at : ℕ) where
+  -- 5. "Are the map bytes there (before 6), and source, target and every byte the map calls for (after 6, before 7)?"
+  -- 6. "Are only permitted bits set?"
+  unfoldable pub mapCode : ℕ
+  mapCode =
+      ask 5 (leb (at + mapBytes kind) (length s))
+      (ask 6 (each 16 (bitGood kind k (mapOf kind s at)))
+      (ask 5 (leb (at + recordLength kind s at) (length s)) 0))
+
+  unfoldable pub fieldGood : ℕ → Bool
+  fieldGood b = whereThere (inRange k (fieldOf first kind b)) (fieldAt kind s at b)
+
+  -- 8. "Is each field in range"
+  unfoldable pub fieldsCode : ℕ
+  fieldsCode = ask 8 (each 16 fieldGood) 0
+
+-- 7. "(Location) Does a bound stand for each of the K clocks?"
+unfoldable pub boundsCode : ℕ → List ℕ → ℕ → ℕ
+boundsCode k s at = ask 7 (each k (λ j. stands (mapOf LocationRecord s at) (first .bound + j))) 0
+
+-- 9. "(Edge) Are source and target below L?"
+unfoldable pub endsCode : ℕ → List ℕ → ℕ → ℕ
+endsCode l s at = ask 9 (ltb (byteAt s (at + 2)) l && ltb (byteAt s (at + 3)) l) 0
+
+unfoldable pub locationCode : ℕ → List ℕ → ℕ → ℕ
+locationCode k s at = orElse (mapCode LocationRecord k s at) (orElse (boundsCode k s at) (fieldsCode LocationRecord k s at))
+
+unfoldable pub edgeCode : ℕ → ℕ → List ℕ → ℕ → ℕ
+edgeCode k l s at = orElse (mapCode EdgeRecord k s at) (orElse (fieldsCode EdgeRecord k s at) (endsCode l s at))
+
+-- 11. "Do location 0's bounds admit all clocks at 0?" The upper byte 0 means clock < 0.
+unfoldable pub startCode : ℕ → List ℕ → ℕ
+startCode k s = ask 11 (each k (λ j. ltb 0 (boundAt s 4 j))) 0
+
+-- "For each record in turn", and then 10. "Has every byte been used?" and 11
+unfoldable pub recordsCode : ℕ → ℕ → ℕ → List ℕ → ℕ
+recordsCode k l e s =
+    orElse (firstOf l (λ i. locationCode k s (locationAt s i)))
+    (orElse (firstOf e (λ i. edgeCode k l s (recordAt EdgeRecord s (locationAt s l) i)))
+    (ask 10 (eqb (recordAt EdgeRecord s (locationAt s l) e) (length s))
+    (startCode k s)))
+
+-- 2. "Is the length 4 to 580?" 3. "Is the edition 1?" 4. "Are L, K, E in range?"
+unfoldable pub checkOf : List ℕ → ℕ
+checkOf s =
+    ask 2 (within (length s) 4 580)
+    (ask 3 (eqb (byteAt s 0) 1)
+    (ask 4 (within (locationsIn s) 1 12 && (within (clocksIn s) 1 (first .clocks) && within (edgesIn s) 0 32))
+    (recordsCode (clocksIn s) (locationsIn s) (edgesIn s) s)))

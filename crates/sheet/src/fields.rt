@@ -1,0 +1,94 @@
+// What the bits of a record's map stand for, and the values that may stand there.
+ghost use mathlib.Core.Path.{_≡_};
+ghost use Prim.Native.Nat.{_≤_};
+ghost use Rattle.sheet.specs.Fields.{fieldOf, first, permittedField, inRange, costInRange, within};
+
+// The two kinds of record.
+pub enum Kind {
+    LocationRecord,
+    EdgeRecord,
+}
+
+// A field; a bound or a guard is of the clock it names.
+pub enum Field {
+    Cost,
+    Reward,
+    Reset,
+    Lower(u32),
+    Upper(u32),
+    Unused,
+}
+
+// The field that bit b stands for.
+pub(crate) fn field_of(kind: Kind, b: u32) -> Field
+    ensures { λ r. ⌜ r ≡ fieldOf first kind b ⌝ }
+{
+    match kind {
+        Kind::LocationRecord => match b {
+            0 => Field::Cost,
+            1 => Field::Reward,
+            2..=4 => Field::Upper(b - 2),
+            _ => Field::Unused,
+        },
+        Kind::EdgeRecord => match b {
+            0 => Field::Cost,
+            1 => Field::Reward,
+            2 => Field::Reset,
+            3..=5 => Field::Lower(b - 3),
+            6..=8 => Field::Upper(b - 6),
+            _ => Field::Unused,
+        },
+    }
+}
+
+// Whether a sheet with so many clocks may have the field.
+pub(crate) fn permitted(field: Field, clocks: u32) -> bool
+    ensures { λ r. ⌜ r ≡ permittedField clocks field ⌝ }
+{
+    match field {
+        Field::Cost => true,
+        Field::Reward => true,
+        Field::Reset => true,
+        Field::Lower(j) => j < clocks,
+        Field::Upper(j) => j < clocks,
+        Field::Unused => false,
+    }
+}
+
+// Whether v lies between low and high, both included.
+pub(crate) fn is_within(v: usize, low: usize, high: usize) -> bool
+    ensures { λ r. ⌜ r ≡ within v low high ⌝ }
+{
+    if v < low {
+        return false;
+    }
+    v <= high
+}
+
+// A cost that is written is not 0.
+fn cost_in_range(z: i16) -> bool
+    ensures { λ r. ⌜ r ≡ costInRange z ⌝ }
+{
+    if z == 0 {
+        return false;
+    }
+    if z < -10000 {
+        return false;
+    }
+    z <= 10000
+}
+
+// Question 8: whether a field may have the value v.
+pub(crate) fn in_range(field: Field, clocks: u32, v: u16) -> bool
+    requires { ⌜ clocks ≤ 3 ⌝ }
+    ensures { λ r. ⌜ r ≡ inRange clocks field v ⌝ }
+{
+    match field {
+        Field::Cost => cost_in_range(crate::bytes::signed(v)),
+        Field::Reward => is_within(v as usize, 1, 10000),
+        Field::Reset => is_within(v as usize, 1, (1usize << clocks) - 1),
+        Field::Lower(_) => is_within(v as usize, 1, 25),
+        Field::Upper(_) => is_within(v as usize, 0, 25),
+        Field::Unused => false,
+    }
+}

@@ -1,0 +1,188 @@
+// The questions put to a sheet, in their order: each function answers the number of the first that is answered no, or 0.
+ghost use mathlib.Core.Path.{_≡_};
+ghost use Prim.Native.Nat.{_≤_, _<_};
+ghost use Rattle.sheet.specs.Questions.{bitGood, mapCode, boundsCode, fieldsCode, endsCode, locationCode, edgeCode, startCode, recordsCode, checkOf};
+use crate::fields::Kind;
+
+// Whether bit b of a map is clear or permitted.
+fn bit_good(map: u32, kind: Kind, clocks: u32, b: u32) -> bool
+    requires { ⌜ b < 16 ⌝ }
+    ensures { λ r. ⌜ r ≡ bitGood kind clocks map b ⌝ }
+{
+    if crate::bytes::bit(map, b) == 0 {
+        return true;
+    }
+    crate::fields::permitted(crate::fields::field_of(kind, b), clocks)
+}
+
+// Questions 5, 6 and 5 again of the record at a place: the map, its bits, and the bytes that it calls for.
+fn map_code(s: &[u8], kind: Kind, clocks: u32, at: usize) -> u8
+    requires { ⌜ at < 2048 ⌝ }
+    ensures { λ r. ⌜ r ≡ mapCode kind clocks (now (s .entry)) at ⌝ }
+{
+    let code = 'map: loop {
+        if s.len() < at + crate::records::map_bytes(kind) {
+            break 'map 5;
+        }
+        let map = crate::records::map_of(s, kind, at);
+        for b in 0..16u32 {
+            if !bit_good(map, kind, clocks, b) {
+                break 'map 6;
+            }
+        }
+        if s.len() < at + crate::records::record_length(s, kind, at) {
+            break 'map 5;
+        }
+        break 'map 0;
+    };
+    code
+}
+
+// Question 7 of a location: a bound stands for each clock.
+fn bounds_code(s: &[u8], clocks: u32, at: usize) -> u8
+    requires { ⌜ (at < 2048) × (clocks ≤ 3) ⌝ }
+    ensures { λ r. ⌜ r ≡ boundsCode clocks (now (s .entry)) at ⌝ }
+{
+    let map = crate::records::map_of(s, Kind::LocationRecord, at);
+    let code = 'bounds: loop {
+        for j in 0..clocks {
+            if crate::bytes::bit(map, 2 + j) == 0 {
+                break 'bounds 7;
+            }
+        }
+        break 'bounds 0;
+    };
+    code
+}
+
+// Question 8 of a record: each field is in range.
+fn fields_code(s: &[u8], kind: Kind, clocks: u32, at: usize) -> u8
+    requires { ⌜ (at < 2048) × (clocks ≤ 3) ⌝ }
+    ensures { λ r. ⌜ r ≡ fieldsCode kind clocks (now (s .entry)) at ⌝ }
+{
+    let code = 'fields: loop {
+        for b in 0..16u32 {
+            if !crate::records::field_good(s, kind, at, clocks, b) {
+                break 'fields 8;
+            }
+        }
+        break 'fields 0;
+    };
+    code
+}
+
+// Questions 5 to 8 of the location record at a place.
+fn location_code(s: &[u8], clocks: u32, at: usize) -> u8
+    requires { ⌜ (at < 2048) × (clocks ≤ 3) ⌝ }
+    ensures { λ r. ⌜ r ≡ locationCode clocks (now (s .entry)) at ⌝ }
+{
+    let map = map_code(s, Kind::LocationRecord, clocks, at);
+    if map != 0 {
+        return map;
+    }
+    let bounds = bounds_code(s, clocks, at);
+    if bounds != 0 {
+        return bounds;
+    }
+    fields_code(s, Kind::LocationRecord, clocks, at)
+}
+
+// Question 9 of an edge: its source and its target are locations.
+fn ends_code(s: &[u8], locations: usize, at: usize) -> u8
+    requires { ⌜ at < 2048 ⌝ }
+    ensures { λ r. ⌜ r ≡ endsCode locations (now (s .entry)) at ⌝ }
+{
+    if locations <= crate::bytes::number(s, at + 2) {
+        return 9;
+    }
+    if locations <= crate::bytes::number(s, at + 3) {
+        return 9;
+    }
+    0
+}
+
+// Questions 5, 6, 8 and 9 of the edge record at a place.
+fn edge_code(s: &[u8], clocks: u32, locations: usize, at: usize) -> u8
+    requires { ⌜ (at < 2048) × (clocks ≤ 3) ⌝ }
+    ensures { λ r. ⌜ r ≡ edgeCode clocks locations (now (s .entry)) at ⌝ }
+{
+    let map = map_code(s, Kind::EdgeRecord, clocks, at);
+    if map != 0 {
+        return map;
+    }
+    let fields = fields_code(s, Kind::EdgeRecord, clocks, at);
+    if fields != 0 {
+        return fields;
+    }
+    ends_code(s, locations, at)
+}
+
+// Question 11: location 0's bounds admit all clocks at 0. An upper byte 0 is a bound below 0.
+fn start_code(s: &[u8], clocks: u32) -> u8
+    requires { ⌜ clocks ≤ 3 ⌝ }
+    ensures { λ r. ⌜ r ≡ startCode clocks (now (s .entry)) ⌝ }
+{
+    let code = 'start: loop {
+        for j in 0..clocks {
+            if crate::records::byte_field(s, Kind::LocationRecord, 4, 2 + j, 0) == 0 {
+                break 'start 11;
+            }
+        }
+        break 'start 0;
+    };
+    code
+}
+
+// Questions 5 to 11: each record in turn, then what follows the last.
+fn records_code(s: &[u8], clocks: u32, locations: usize, edges: usize) -> u8
+    requires { ⌜ (clocks ≤ 3) × ((locations ≤ 12) × (edges ≤ 32)) ⌝ }
+    ensures { λ r. ⌜ r ≡ recordsCode clocks locations edges (now (s .entry)) ⌝ }
+{
+    let mut at: usize = 4;
+    let code = 'records: loop {
+        for i in 0..locations {
+            let refused = location_code(s, clocks, at);
+            if refused != 0 {
+                break 'records refused;
+            }
+            at = at + crate::records::record_length(s, Kind::LocationRecord, at);
+        }
+        for e in 0..edges {
+            let refused = edge_code(s, clocks, locations, at);
+            if refused != 0 {
+                break 'records refused;
+            }
+            at = at + crate::records::record_length(s, Kind::EdgeRecord, at);
+        }
+        if at != s.len() {
+            break 'records 10;
+        }
+        break 'records start_code(s, clocks);
+    };
+    code
+}
+
+// Questions 2 to 11.
+pub(crate) fn check(s: &[u8]) -> u8
+    ensures { λ r. ⌜ r ≡ checkOf (now (s .entry)) ⌝ }
+{
+    if !crate::fields::is_within(s.len(), 4, 580) {
+        return 2;
+    }
+    if crate::bytes::byte(s, 0) != 1 {
+        return 3;
+    }
+    let locations = crate::bytes::number(s, 1);
+    let clocks = crate::bytes::number(s, 2);
+    let edges = crate::bytes::number(s, 3);
+    if !crate::fields::is_within(locations, 1, 12) {
+        return 4;
+    }
+    if !crate::fields::is_within(clocks, 1, 3) {
+        return 4;
+    }
+    if !crate::fields::is_within(edges, 0, 32) {
+        return 4;
+    }
+    records_code(s, clocks as u32, locations, edges)
+}
