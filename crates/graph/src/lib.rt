@@ -6,6 +6,7 @@ mod climb;
 mod copy;
 mod entries;
 mod form;
+mod potentials;
 mod search;
 
 pub struct Coefficients {

@@ -1,70 +1,20 @@
 // Bellman-Ford in place. One round relaxes every arc once; a round without a fall leaves the potentials, and after any other the climb
-// from a node that fell looks for a cycle. A fall is stamped with its time, 131072 times the round and the arc's number and 1.
+// from a node that fell looks for a cycle. A fall is stamped with its time: 131072 times the round's number, plus the arc's, plus 1.
+// There is room for 2048 nodes, and those that the graph does not have are never reached.
 ghost use mathlib.Core.Path.{_≡_};
-ghost use Prim.Native.Nat.{ℕ, _+_, _<_, _≤_};
-ghost use lib.ListN.{length, set};
-ghost use lib.IntN.{natAbs};
-ghost use Rattle.walks.specs.Walk.{at};
+ghost use Prim.Native.Nat.{ℕ, _<_, _≤_};
+ghost use lib.ListN.{length};
 ghost use Rattle.walks.specs.Weight.{weightOf};
 ghost use Rattle.walks.specs.Form.{Graph, InRange};
-ghost use Rattle.walks.proofs.Codes.{code, codes};
-ghost use Rattle.walks.proofs.Signed.{Sum, Less, Low};
-ghost use Rattle.walks.proofs.Rounds.{bias, start, most, deep, Relaxed, Ended};
+ghost use Rattle.walks.proofs.Codes.{codes};
+ghost use Rattle.walks.proofs.Rounds.{start, Relaxed, Ended};
 ghost use Rattle.walks.proofs.Coded.{coded, Running};
 ghost use Rattle.graph.specs.Answer.{CycleFound, PotentialsFound};
 use crate::Coefficients;
 use crate::climb;
 use crate::copy;
 use crate::entries;
-
-fn add(x: i64, y: i64) -> i64
-    requires { ⌜ start < code start x + deep ⌝ ∗ ⌜ code start x ≤ start + deep ⌝ ∗ ⌜ natAbs y ≤ most ⌝ }
-    ensures { λ r. ⌜ Sum (code start x) (code bias y) r ⌝ }
-{
-    x + y
-}
-
-// The potential of u and a weight.
-fn beyond(dist: &[i64], u: usize, w: i64) -> i64
-    requires { ⌜ u < length (now dist) ⌝ ∗ ⌜ natAbs w ≤ most ⌝ }
-    requires { ⌜ start < at (codes start (now dist)) u + deep ⌝ ∗ ⌜ at (codes start (now dist)) u ≤ start + deep ⌝ }
-    ensures { λ r. ⌜ Sum (at (codes start (now (dist .entry))) u) (code bias w) r ⌝ }
-{
-    let x = dist[u];
-    add(x, w)
-}
-
-fn less(x: i64, y: i64) -> bool
-    requires { ⌜ 0 < code start y ⌝ }
-    ensures { λ b. ⌜ Less (code start x) (code start y) b ⌝ }
-{
-    x < y
-}
-
-// Whether x is below the potential of v.
-fn improves(dist: &[i64], v: usize, x: i64) -> bool
-    requires { ⌜ v < length (now dist) ⌝ ∗ ⌜ 0 < at (codes start (now dist)) v ⌝ }
-    ensures { λ b. ⌜ Less (code start x) (at (codes start (now (dist .entry))) v) b ⌝ }
-{
-    let y = dist[v];
-    less(x, y)
-}
-
-// Whether the potential of v is −10^15 or less: then the climb from v finds a cycle.
-fn low(dist: &[i64], v: usize) -> bool
-    requires { ⌜ v < length (now dist) ⌝ }
-    ensures { λ b. ⌜ Low (at (codes start (now (dist .entry))) v) b ⌝ }
-{
-    let y = dist[v];
-    less(y, -999999999999999)
-}
-
-fn put(dist: &mut [i64], v: usize, x: i64)
-    requires { ⌜ v < length (now dist) ⌝ }
-    ensures { λ _. ⌜ codes start (now (dist .exit)) ≡ set (codes start (now (dist .entry))) v (code start x) ⌝ }
-{
-    dist[v] = x;
-}
+use crate::potentials;
 
 // Relaxes the arc e in the round that begins at b, unless its source has not fallen since the arc was relaxed last.
 fn relax(
@@ -90,9 +40,9 @@ fn relax(
         return false;
     }
     let v = entries::entry(to, e);
-    let x = beyond(dist, u, entries::weight(cost, reward, k, e));
-    if improves(dist, v, x) {
-        put(dist, v, x);
+    let x = potentials::beyond(dist, u, entries::weight(cost, reward, k, e));
+    if potentials::improves(dist, v, x) {
+        potentials::put(dist, v, x);
         parent[v] = e + 1;
         stamp[v] = b + e + 1;
         return true;
@@ -121,7 +71,7 @@ fn round(
     while e < from.len() {
         if relax(from, to, cost, reward, k, dist, parent, stamp, b, e) {
             seen = entries::entry(to, e);
-            if low(dist, seen) {
+            if potentials::low(dist, seen) {
                 return seen;
             }
         }

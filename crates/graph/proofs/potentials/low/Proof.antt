@@ -1,4 +1,4 @@
--- `graph::search::low` meets its contract.
+-- `graph::potentials::low` meets its contract.
 use mathlib.Core.Path.{_≡_}
 use native.Mathlib.Omega.{arith}
 use borrow.Author.Needs.{needs}
@@ -8,8 +8,8 @@ use Rattle.walks.proofs.Rounds.{start}
 use Rattle.walks.proofs.Codes.{code, codes}
 use Rattle.walks.proofs.Tests.{again}
 use Rattle.walks.proofs.Signed.{elem, is-low}
-use Rattle.graph.proofs.search.low.Statement.{statement}
-use Rattle.graph.proofs.search.low.Tie as tie
+use Rattle.graph.proofs.potentials.low.Statement.{statement}
+use Rattle.graph.proofs.potentials.low.Tie as tie
 
 -- the potential that was read
 E : (c : tie.After-y) → let s = c .before in

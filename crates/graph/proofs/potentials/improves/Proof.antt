@@ -1,4 +1,4 @@
--- `graph::search::improves` meets its contract.
+-- `graph::potentials::improves` meets its contract.
 use mathlib.Core.Path.{_≡_}
 use mathlib.Core.Bool.{Bool}
 use Prim.Native.Nat.{ℕ}
@@ -14,8 +14,8 @@ use Rattle.walks.proofs.Codes.{code, codes}
 use Rattle.walks.proofs.Signed.{Less}
 use Rattle.walks.proofs.Tests.{again, fits}
 use Rattle.walks.proofs.Signed.{elem}
-use Rattle.graph.proofs.search.improves.Statement.{statement}
-use Rattle.graph.proofs.search.improves.Tie as tie
+use Rattle.graph.proofs.potentials.improves.Statement.{statement}
+use Rattle.graph.proofs.potentials.improves.Tie as tie
 
 -- the potential that was read
 E : (c : tie.After-y) → let s = c .before in

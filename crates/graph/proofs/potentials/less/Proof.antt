@@ -1,7 +1,7 @@
--- `graph::search::less` meets its contract.
+-- `graph::potentials::less` meets its contract.
 use Rattle.walks.proofs.Signed.{is-less}
-use Rattle.graph.proofs.search.less.Statement.{statement}
-use Rattle.graph.proofs.search.less.Tie as tie
+use Rattle.graph.proofs.potentials.less.Statement.{statement}
+use Rattle.graph.proofs.potentials.less.Tie as tie
 
 returns : tie.Need-returns
 returns c = is-less (c .args .x) (c .args .y) (c .fits .x) (c .fits .y) (c .pre)

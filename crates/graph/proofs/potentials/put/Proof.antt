@@ -1,9 +1,9 @@
--- `graph::search::put` meets its contract.
+-- `graph::potentials::put` meets its contract.
 use borrow.Author.Needs.{needs}
 use denote.Ref.{now}
 use Rattle.walks.proofs.Signed.{stored}
-use Rattle.graph.proofs.search.put.Statement.{statement}
-use Rattle.graph.proofs.search.put.Tie as tie
+use Rattle.graph.proofs.potentials.put.Statement.{statement}
+use Rattle.graph.proofs.potentials.put.Tie as tie
 
 mul-x : tie.Need-mul-x
 mul-x c = search needs

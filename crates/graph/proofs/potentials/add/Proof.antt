@@ -1,7 +1,7 @@
--- `graph::search::add` meets its contract.
+-- `graph::potentials::add` meets its contract.
 use Rattle.walks.proofs.Signed.{sum-fits, sum-is}
-use Rattle.graph.proofs.search.add.Statement.{statement}
-use Rattle.graph.proofs.search.add.Tie as tie
+use Rattle.graph.proofs.potentials.add.Statement.{statement}
+use Rattle.graph.proofs.potentials.add.Tie as tie
 
 add-result : tie.Need-add-result
 add-result c = sum-fits (c .args .x) (c .args .y) (c .fits .x) (c .fits .y) (c .pre .0) (c .pre .1 .0) (c .pre .1 .1)

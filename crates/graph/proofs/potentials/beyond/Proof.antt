@@ -1,4 +1,4 @@
--- `graph::search::beyond` meets its contract.
+-- `graph::potentials::beyond` meets its contract.
 use mathlib.Core.Path.{_≡_}
 use Prim.Native.Nat.{ℕ, _≤_}
 use borrow.Author.Needs.{needs}
@@ -12,8 +12,8 @@ use Rattle.walks.proofs.Tests.{again, fits}
 use Rattle.walks.proofs.Codes.{code, codes}
 use Rattle.walks.proofs.Rounds.{start, bias}
 use Rattle.walks.proofs.Signed.{Sum, elem}
-use Rattle.graph.proofs.search.beyond.Statement.{statement}
-use Rattle.graph.proofs.search.beyond.Tie as tie
+use Rattle.graph.proofs.potentials.beyond.Statement.{statement}
+use Rattle.graph.proofs.potentials.beyond.Tie as tie
 
 -- the potential that was read
 X : (c : tie.After-x) → let s = c .before in
