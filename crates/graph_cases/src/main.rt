@@ -1,64 +1,9 @@
 // Small graphs with known answers, a line for each: the answer, then the two buffers, whose entries are 7 where nothing was written.
-use graph::Answer;
 use graph::Coefficients;
+
+mod show;
+
 use libc::STDOUT_FILENO;
-
-// A number, or "none" for a node that is not reached.
-fn show(z: i64) {
-    if z == 1152921504606846976 {
-        io::write_all(STDOUT_FILENO, b" none");
-        return;
-    }
-    if z < 0 {
-        io::write_all(STDOUT_FILENO, b" -");
-        io::print_decimal(STDOUT_FILENO, ((-1 - z) as u64) + 1);
-        return;
-    }
-    io::write_all(STDOUT_FILENO, b" ");
-    io::print_decimal(STDOUT_FILENO, z as u64);
-}
-
-// The first entries of a buffer.
-fn show_potentials(s: &[i64]) {
-    io::write_all(STDOUT_FILENO, b" |");
-    let mut i = 0;
-    while i < s.len() {
-        if i == 5 {
-            return;
-        }
-        let z = s[i];
-        show(z);
-        i += 1;
-    }
-}
-
-fn show_arcs(s: &[usize]) {
-    io::write_all(STDOUT_FILENO, b" |");
-    let mut i = 0;
-    while i < s.len() {
-        if i == 5 {
-            return;
-        }
-        io::write_all(STDOUT_FILENO, b" ");
-        io::print_decimal(STDOUT_FILENO, s[i] as u64);
-        i += 1;
-    }
-}
-
-fn show_answer(a: Answer) {
-    match a {
-        Answer::Malformed => {
-            io::write_all(STDOUT_FILENO, b": malformed");
-        }
-        Answer::Cycle(arcs) => {
-            io::write_all(STDOUT_FILENO, b": cycle ");
-            io::print_decimal(STDOUT_FILENO, arcs as u64);
-        }
-        Answer::Potentials => {
-            io::write_all(STDOUT_FILENO, b": potentials");
-        }
-    }
-}
 
 fn lent(
     name: &[u8],
@@ -73,9 +18,9 @@ fn lent(
 ) {
     io::write_all(STDOUT_FILENO, name);
     let a = graph::negative_cycle(from, to, cost, reward, k, nodes, potential, cycle);
-    show_answer(a);
-    show_potentials(potential);
-    show_arcs(cycle);
+    show::answer(a);
+    show::potentials(potential);
+    show::arcs(cycle);
     io::write_all(STDOUT_FILENO, b"\n");
 }
 

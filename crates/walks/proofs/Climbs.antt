@@ -73,7 +73,8 @@ getD-slice f t l i h = rw (getD-drop, getD-take)
 pub close : (F T : List ℕ) (W : ℕ → ℕ) (m : ℕ) (D st : List ℕ) (x : ℕ) (c : List ℕ) → Climb F T W m D st x c x → total W c < bias * length c
 close F T W m D st x c k = omega (arith, k .above)
 
-module _ (F T : List ℕ) (W : ℕ → ℕ) (m : ℕ) (D st mark order : List ℕ) (n v x a e : ℕ) (o : Marks mark order n x (suc a)) (c : Climbing F T W m D st mark order n v x (suc a))
+module _ (F T : List ℕ) (W : ℕ → ℕ) (m : ℕ) (D st mark order : List ℕ) (n v x a e : ℕ) (o : Marks mark order n x (suc a))
+    (c : Climbing F T W m D st mark order n v x (suc a))
     (fresh : at mark x ≡ 0) (k : Hangs F T W m D st x e) (young : at st x < stamps) (heavy : bias ≤ W e + most) where
   abbrev mark' : List ℕ
   mark' = set mark x (suc a)
@@ -151,7 +152,8 @@ pub climb-closed : (F T : List ℕ) (W : ℕ → ℕ) (m : ℕ) (D st mark order
     → (top < at mark x) × (at mark x ≤ n) × Negative F T W m (slice top (at mark x) order)
 climb-closed F T W m D st mark order n v x top o c reach h =
     let k : Climb F T W m D st x (slice top (at mark x) order) x = c .marked x (o .here) h in
-    let l : length (slice top (at mark x) order) ≡ at mark x - top = length-slice top (at mark x) order (omega (arith, o .within x (o .here), o .order-len)) in (
+    let l : length (slice top (at mark x) order) ≡ at mark x - top =
+    length-slice top (at mark x) order (omega (arith, o .within x (o .here), o .order-len)) in (
       omega (arith, k .some),
       o .within x (o .here),
       record {
@@ -162,9 +164,11 @@ climb-closed F T W m D st mark order n v x top o c reach h =
         walk = k .walk;
         below = close F T W m D st x (slice top (at mark x) order) k;
         simple = λ i j hi hj p.
-            let q : at T (at order (top + i)) ≡ at T (at order (top + j)) = rw (← getD-slice top (at mark x) order i (omega arith), ← getD-slice top (at mark x) order j (omega arith)) p in
+            let q : at T (at order (top + i)) ≡ at T (at order (top + j)) =
+            rw (← getD-slice top (at mark x) order i (omega arith), ← getD-slice top (at mark x) order j (omega arith)) p in
             let z : at mark (at T (at order (top + i))) ≡ at mark (at T (at order (top + j))) = ap (λ (y : ℕ). at mark y) q in
-            omega (arith, c .back (top + i) (omega arith) (omega (arith, o .within x (o .here))), c .back (top + j) (omega arith) (omega (arith, o .within x (o .here))));
+            let n : at mark x ≤ n = o .within x (o .here) in
+            omega (arith, c .back (top + i) (omega arith) (omega arith), c .back (top + j) (omega arith) (omega arith));
       },
     )
 

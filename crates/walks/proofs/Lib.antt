@@ -7,6 +7,7 @@ pub mod Codes
 pub mod Rounds
 pub mod Zeros
 pub mod Relaxing
+pub mod Falls
 pub mod RoundLaws
 pub mod Climbs
 pub mod ClimbTurns

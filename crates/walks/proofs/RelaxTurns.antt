@@ -14,7 +14,8 @@ use Rattle.walks.proofs.Tests.{again}
 use Rattle.walks.proofs.Codes.{code, codes, length-codes}
 use Rattle.walks.proofs.Signed.{Sum, Less}
 use Rattle.walks.proofs.Rounds.{bias, start, deep, turn, Arcs, Relaxed}
-use Rattle.walks.proofs.Relaxing.{sum-high, relax-same, relax-still, relax-changed}
+use Rattle.walks.proofs.Relaxing.{sum-high, relax-same, relax-still}
+use Rattle.walks.proofs.Falls.{relax-changed}
 use Rattle.walks.proofs.Coded.{coded, arcs, Running}
 
 module _ {F T : List ℕ} {cost : List ℤ} {reward : List ℕ} {a b c : ℤ} {d : List ℤ} {par st : List ℕ} {begin e u : ℕ}

@@ -38,7 +38,8 @@ module _ (x y : ℤ) (hx : SFits w64 x) (hy : SFits w64 y) (a : start < code sta
   py = code-parts bias y (omega (arith, abs-parts y))
 
   sum-fits′ : SFits w64 (x +ℤ y)
-  sum-fits′ = sfits-of (mag-below (x +ℤ y) 9223372036854775808 (omega (arith, add-parts x y, px, py, abs-parts y)) (omega (arith, add-parts x y, px, py, abs-parts y)))
+  sum-fits′ = sfits-of (mag-below (x +ℤ y) 9223372036854775808
+      (omega (arith, add-parts x y, px, py, abs-parts y)) (omega (arith, add-parts x y, px, py, abs-parts y)))
 
   pub sum-fits : SFits w64 (again x +ℤ again y)
   sum-fits = simp toZ-ofZ sum-fits′

@@ -15,8 +15,9 @@ S c = c .before .before .before .before .before
 abbrev M : tie.After-search → tie.After-well-formed
 M c = c .before .before .before .before
 
-Formed : (c : tie.After-search) → WellFormed (now (S (M c) .args .from)) (now (S (M c) .args .to)) (now (S (M c) .args .cost)) (now (S (M c) .args .reward))
-    (S (M c) .args .k .a) (S (M c) .args .k .b) (S (M c) .args .k .c) (S (M c) .args .nodes) (length (now (S (M c) .args .potential))) (length (now (S (M c) .args .cycle)))
+Formed : (c : tie.After-search) → let s = S (M c) in
+    WellFormed (now (s .args .from)) (now (s .args .to)) (now (s .args .cost)) (now (s .args .reward)) (s .args .k .a) (s .args .k .b) (s .args .k .c)
+    (s .args .nodes) (length (now (s .args .potential))) (length (now (s .args .cycle)))
 Formed c = M c .well-formed .ensures .yes (not-false _ (c .before .before .before .if1 .left))
 
 well-formed-requires : tie.Need-well-formed-requires

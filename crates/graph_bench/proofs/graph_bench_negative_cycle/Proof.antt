@@ -55,7 +55,8 @@ same-length-2 c = search needs
 
 returns : tie.Need-returns
 returns c = let k = c .before .before .before .before .before in let s = S k in
-    known _ _ _ _ (s .args .a) (s .args .b) (s .args .c) _ _ _ _ _ _ _ (s .fits .a) (s .fits .b) (s .fits .c) (c .enum-told .given .1) (k .negative-cycle .ensures)
+    known _ _ _ _ (s .args .a) (s .args .b) (s .args .c) _ _ _ _ _ _ _ (s .fits .a) (s .fits .b) (s .fits .c)
+    (c .enum-told .given .1) (k .negative-cycle .ensures)
 
 same-length-3 : tie.Need-same-length-3
 same-length-3 c = search needs
@@ -66,7 +67,8 @@ same-length-4 c = search needs
 returns-2 : tie.Need-returns-2
 returns-2 c = let k = c .before .before .before .before .before .before in let s = S k in
     cycled _ _ _ _ _ _ _ _ _ _ _ _ _
-    (known _ _ _ _ (s .args .a) (s .args .b) (s .args .c) _ _ _ _ _ _ _ (s .fits .a) (s .fits .b) (s .fits .c) (c .before .answer .given .1) (k .negative-cycle .ensures))
+    (known _ _ _ _ (s .args .a) (s .args .b) (s .args .c) _ _ _ _ _ _ _ (s .fits .a) (s .fits .b) (s .fits .c)
+    (c .before .answer .given .1) (k .negative-cycle .ensures))
 
 same-length-5 : tie.Need-same-length-5
 same-length-5 c = search needs
@@ -76,7 +78,8 @@ same-length-6 c = search needs
 
 returns-3 : tie.Need-returns-3
 returns-3 c = let k = c .before .before .before .before .before in let s = S k in
-    known _ _ _ _ (s .args .a) (s .args .b) (s .args .c) _ _ _ _ _ _ _ (s .fits .a) (s .fits .b) (s .fits .c) (c .enum-told2 .given .1) (k .negative-cycle .ensures)
+    known _ _ _ _ (s .args .a) (s .args .b) (s .args .c) _ _ _ _ _ _ _ (s .fits .a) (s .fits .b) (s .fits .c)
+    (c .enum-told2 .given .1) (k .negative-cycle .ensures)
 
 pub graph-bench-negative-cycle-spec : {M : Type 1} → statement M
 graph-bench-negative-cycle-spec =

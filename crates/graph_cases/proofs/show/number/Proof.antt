@@ -1,10 +1,10 @@
--- `graph_cases::show` meets its contract.
+-- `graph_cases::show::number` meets its contract.
 use native.Mathlib.Omega.{arith}
 use borrow.Author.Needs.{needs}
 use mir.Syntax.{w64}
 use Rattle.graph_cases.proofs.Naturals.{fits, cast, one-more, above, below}
-use Rattle.graph_cases.proofs.show.Statement.{statement}
-use Rattle.graph_cases.proofs.show.Tie as tie
+use Rattle.graph_cases.proofs.show.number.Statement.{statement}
+use Rattle.graph_cases.proofs.show.number.Tie as tie
 
 slice-aggregate-write-all : tie.Need-slice-aggregate-write-all
 slice-aggregate-write-all c = search needs
@@ -22,13 +22,16 @@ write-all-requires-2 : tie.Need-write-all-requires-2
 write-all-requires-2 c κs = search needs
 
 sub-print-decimal : tie.Need-sub-print-decimal
-sub-print-decimal c = let s = c .before .before .before .before in fits w64 (omega arith) _ (below w64 (omega arith) _ (s .fits .z) (c .before .before .if2 .taken))
+sub-print-decimal c = let s = c .before .before .before .before in
+    fits w64 (omega arith) _ (below w64 (omega arith) _ (s .fits .z) (c .before .before .if2 .taken))
 
 cast-print-decimal : tie.Need-cast-print-decimal
-cast-print-decimal c = let s = c .before .before .before .before in cast w64 (omega arith) _ (below w64 (omega arith) _ (s .fits .z) (c .before .before .if2 .taken))
+cast-print-decimal c = let s = c .before .before .before .before in
+    cast w64 (omega arith) _ (below w64 (omega arith) _ (s .fits .z) (c .before .before .if2 .taken))
 
 add-print-decimal : tie.Need-add-print-decimal
-add-print-decimal c = let s = c .before .before .before .before in one-more w64 (omega arith) _ (below w64 (omega arith) _ (s .fits .z) (c .before .before .if2 .taken))
+add-print-decimal c = let s = c .before .before .before .before in
+    one-more w64 (omega arith) _ (below w64 (omega arith) _ (s .fits .z) (c .before .before .if2 .taken))
 
 print-decimal-requires : tie.Need-print-decimal-requires
 print-decimal-requires c κs = search needs
@@ -43,7 +46,8 @@ write-all-requires-3 : tie.Need-write-all-requires-3
 write-all-requires-3 c κs = search needs
 
 cast-print-decimal-2 : tie.Need-cast-print-decimal-2
-cast-print-decimal-2 c = let s = c .before .before .before .before in cast w64 (omega arith) _ (above w64 (omega arith) _ (s .fits .z) (c .before .before .if2 .left))
+cast-print-decimal-2 c = let s = c .before .before .before .before in
+    cast w64 (omega arith) _ (above w64 (omega arith) _ (s .fits .z) (c .before .before .if2 .left))
 
 print-decimal-requires-2 : tie.Need-print-decimal-requires-2
 print-decimal-requires-2 c κs = search needs
@@ -51,8 +55,8 @@ print-decimal-requires-2 c κs = search needs
 returns-3 : tie.Need-returns-3
 returns-3 c = search needs
 
-pub show-spec : {M : Type 1} → statement M
-show-spec =
+pub number-spec : {M : Type 1} → statement M
+number-spec =
     tie.close
     (tie.spec
     slice-aggregate-write-all

@@ -1,10 +1,10 @@
--- `graph_cases::show_potentials` meets its contract.
+-- `graph_cases::show::potentials` meets its contract.
 use Prim.Native.Nat.{_-_, _≤_}
 use native.Mathlib.Omega.{arith}
 use borrow.Author.Needs.{needs}
 use lib.ListN.{length}
-use Rattle.graph_cases.proofs.show_potentials.Statement.{statement}
-use Rattle.graph_cases.proofs.show_potentials.Tie as tie
+use Rattle.graph_cases.proofs.show.potentials.Statement.{statement}
+use Rattle.graph_cases.proofs.show.potentials.Tie as tie
 
 abbrev Inv-loop : tie.InvT-loop
 Inv-loop s i₀ i = i ≤ length s
@@ -30,8 +30,8 @@ mul-z c = omega arith
 shared-slice-copy-out-z : tie.Need-shared-slice-copy-out-z Inv-loop μ-loop
 shared-slice-copy-out-z c = omega arith
 
-show-requires : tie.Need-show-requires Inv-loop μ-loop
-show-requires c κs = search needs
+number-requires : tie.Need-number-requires Inv-loop μ-loop
+number-requires c κs = search needs
 
 add-i : tie.Need-add-i Inv-loop μ-loop
 add-i c = omega arith
@@ -45,8 +45,8 @@ loop-again c = omega arith
 returns-2 : tie.Need-returns-2 Inv-loop μ-loop
 returns-2 c = search needs
 
-pub show-potentials-spec : {M : Type 1} → statement M
-show-potentials-spec =
+pub potentials-spec : {M : Type 1} → statement M
+potentials-spec =
     tie.close
     (tie.spec
     Inv-loop
@@ -57,7 +57,7 @@ show-potentials-spec =
     returns
     mul-z
     shared-slice-copy-out-z
-    show-requires
+    number-requires
     add-i
     loop-less
     loop-again

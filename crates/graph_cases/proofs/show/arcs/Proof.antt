@@ -1,10 +1,10 @@
--- `graph_cases::show_arcs` meets its contract.
+-- `graph_cases::show::arcs` meets its contract.
 use Prim.Native.Nat.{_-_, _≤_}
 use native.Mathlib.Omega.{arith}
 use borrow.Author.Needs.{needs}
 use lib.ListN.{length}
-use Rattle.graph_cases.proofs.show_arcs.Statement.{statement}
-use Rattle.graph_cases.proofs.show_arcs.Tie as tie
+use Rattle.graph_cases.proofs.show.arcs.Statement.{statement}
+use Rattle.graph_cases.proofs.show.arcs.Tie as tie
 
 abbrev Inv-loop : tie.InvT-loop
 Inv-loop s i₀ t4 i = i ≤ length s
@@ -51,8 +51,8 @@ loop-again c = omega arith
 returns-2 : tie.Need-returns-2 Inv-loop μ-loop
 returns-2 c = search needs
 
-pub show-arcs-spec : {M : Type 1} → statement M
-show-arcs-spec =
+pub arcs-spec : {M : Type 1} → statement M
+arcs-spec =
     tie.close
     (tie.spec
     Inv-loop
