@@ -1,0 +1,4 @@
+pub mod TableLaws
+pub mod BitLaws
+pub mod ClockLaws
+pub mod ArrayLaws

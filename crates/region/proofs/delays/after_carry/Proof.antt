@@ -1,10 +1,6 @@
 use borrow.Author.Needs.{needs}
-use Rattle.region.proofs.steps.after_carry.Statement.{statement}
-use Rattle.region.proofs.steps.after_carry.Tie as tie
-use Rattle.region.proofs.steps.after_carry.Reads as reads
-use Rattle.region.proofs.steps.after_carry.Lts as lts
-use Rattle.region.proofs.steps.carry_class.Reads as carry-class-reads
-use Rattle.region.proofs.steps.carry_whole.Reads as carry-whole-reads
+use Rattle.region.proofs.delays.after_carry.Statement.{statement}
+use Rattle.region.proofs.delays.after_carry.Tie as tie
 
 -- src/steps.rt:185:24
 element-copy-out-carry-whole : tie.Need-element-copy-out-carry-whole

@@ -1,8 +1,6 @@
 use borrow.Author.Needs.{needs}
-use Rattle.region.proofs.steps.location_of.Statement.{statement}
-use Rattle.region.proofs.steps.location_of.Tie as tie
-use Rattle.region.proofs.steps.location_of.Reads as reads
-use Rattle.region.proofs.steps.location_of.Lts as lts
+use Rattle.region.proofs.sheets.location_of.Statement.{statement}
+use Rattle.region.proofs.sheets.location_of.Tie as tie
 
 -- src/steps.rt:241:16
 mul-result : tie.Need-mul-result

@@ -1,9 +1,6 @@
 use borrow.Author.Needs.{needs}
-use Rattle.region.proofs.steps.after_rise.Statement.{statement}
-use Rattle.region.proofs.steps.after_rise.Tie as tie
-use Rattle.region.proofs.steps.after_rise.Reads as reads
-use Rattle.region.proofs.steps.after_rise.Lts as lts
-use Rattle.region.proofs.steps.risen_class.Reads as risen-class-reads
+use Rattle.region.proofs.delays.after_rise.Statement.{statement}
+use Rattle.region.proofs.delays.after_rise.Tie as tie
 
 -- src/steps.rt:153:32
 element-copy-out-risen-class : tie.Need-element-copy-out-risen-class
