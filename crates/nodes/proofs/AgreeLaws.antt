@@ -162,8 +162,8 @@ steps-agree A B a sound u code h = step-agree A B a sound u (proper-of A u h) co
 
 pub numbers-agree : (y : Layout) (A B : Automaton) → Agree A B → (x : ℕ) → isNumber y A x ≡ isNumber y B x
 unfolding isNumber
-numbers-agree y A B a x = ap₂ _&&_ (nodes-agree A B a (nodeOf y (A .clocks) x) ∙ ap (λ (k : ℕ). isNode B (nodeOf y k x)) (a .clocks))
-    (ap (λ (k : ℕ). eqb (number y (nodeOf y k x)) x) (a .clocks))
+numbers-agree y A B a x = ap₂ _&&_ (ap (λ (k : ℕ). eqb (number y (nodeOf y k x)) x) (a .clocks))
+    (nodes-agree A B a (nodeOf y (A .clocks) x) ∙ ap (λ (k : ℕ). isNode B (nodeOf y k x)) (a .clocks))
 
 pub number-steps-agree : (y : Layout) (A B : Automaton) → Agree A B → Sound A → (x code : ℕ) → isNode A (nodeOf y (A .clocks) x) ≡ true
     → stepBy y A x code ≡ stepBy y B x code

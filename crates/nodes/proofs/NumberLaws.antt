@@ -54,17 +54,17 @@ module _ (y : Layout) (A : Automaton) (room : Room y A) where
   -- and packing undoes unpacking
   pub number-of-node : (x : ℕ) → isNumber y A x ≡ true → number y (nodeOf y (A .clocks) x) ≡ x
   unfolding isNumber
-  number-of-node x h = let u = nodeOf y (A .clocks) x in eqb-true (number y u) x (&&-right (isNode A u) (eqb (number y u) x) h)
+  number-of-node x h = let u = nodeOf y (A .clocks) x in eqb-true (number y u) x (&&-left (eqb (number y u) x) (isNode A u) h)
 
   pub node-there : (x : ℕ) → isNumber y A x ≡ true → isNode A (nodeOf y (A .clocks) x) ≡ true
   unfolding isNumber
-  node-there x h = let u = nodeOf y (A .clocks) x in &&-left (isNode A u) (eqb (number y u) x) h
+  node-there x h = let u = nodeOf y (A .clocks) x in &&-right (eqb (number y u) x) (isNode A u) h
 
   pub number-there : (u : Node) → isNode A u ≡ true → isNumber y A (number y u) ≡ true
   unfolding isNumber
   number-there u h =
       let e = node-of-number u h in
-      &&-intro (ap (isNode A) e ∙ h) (eq-eqb _ _ (ap (number y) e))
+      &&-intro (eq-eqb _ _ (ap (number y) e)) (ap (isNode A) e ∙ h)
 
   pub apart : (u v : Node) → isNode A u ≡ true → isNode A v ≡ true → number y u ≡ number y v → u ≡ v
   apart u v h k e = sym (node-of-number u h) ∙ ap (nodeOf y (A .clocks)) e ∙ node-of-number v k

@@ -2,3 +2,5 @@ pub mod TableLaws
 pub mod BitLaws
 pub mod ClockLaws
 pub mod ArrayLaws
+pub mod NodeLaws
+pub mod EdgeLaws
