@@ -32,7 +32,7 @@ use Rattle.nodes.proofs.Carried.{named}
 use Rattle.nodes.proofs.AgreeLaws.{Agree}
 use Rattle.nodes.proofs.CheckedLaws.{guard-value}
 
-clock-byte : (kind : Kind) (s : List ℕ) (at b d j : ℕ) → j < 3 → Option·getD (fieldAt kind s at (b + j)) d ≡ getD (clockBytes kind s at b d) j d
+clock-byte : (kind : Kind) (s : List ℕ) (at b d j : ℕ) → j < 3 → Option·getD (fieldAt kind s at (b + j)) d ≡ getD (clockBytes kind s at b d) j 0
 clock-byte kind s at b d zero h = ap (λ (x : ℕ). Option·getD (fieldAt kind s at x) d) (add-zero b)
 clock-byte kind s at b d (suc zero) h = refl
 clock-byte kind s at b d (suc (suc zero)) h = refl

@@ -29,7 +29,7 @@ abbrev pub lowerIn : Edge → ℕ → ℕ
 lowerIn e j = getD (e .lower) j 0
 
 abbrev pub upperIn : Edge → ℕ → Option ℕ
-upperIn e j = guardOf (getD (e .upper) j 255)
+upperIn e j = guardOf (getD (e .upper) j 0)
 
 abbrev pub locationIn : Sheet → ℕ → Location
 locationIn s l = getD (s .location) l blankLocation

@@ -84,6 +84,9 @@ pub largest-three : (xs : List ℕ) → length xs ≡ 3 → max (getD xs 0 0) (m
 unfolding largest
 largest-three xs h = sym (ap largest (sym (three xs h)) ∙ omega arith)
 
+pub largest-below : (b : ℕ) (xs : List ℕ) → length xs ≡ 3 → ((j : ℕ) → getD xs j 0 < b) → largest xs < b
+largest-below b xs l h = omega (arith, largest-three xs l, h 0, h 1, h 2)
+
 -- three digits of two bits
 module _ (a b c : ℕ) (ha : a < 4) (hb : b < 4) (hc : c < 4) where
   by-4 : a + 4 * b + 16 * c ≡ (c * 4 + b) * 4 + a
@@ -175,3 +178,14 @@ pub clocks-padded : (hs ks : List ℕ) → length hs ≡ length ks → length ks
 unfolding clocksFrom
 clocks-padded = two-up-to-three (λ hs ks. clocksFrom firstLayout 0 (padded hs) (padded ks) ≡ clocksFrom firstLayout 0 hs ks)
     refl (λ a k. refl) (λ a b k l. refl) (λ a b c k l m. refl)
+
+-- the arrays that the code builds clock by clock
+pub carry-three : (g : ℕ) (hs ks : List ℕ) → length hs ≡ 3 → length ks ≡ 3
+    → _≡_ {A = List ℕ} (carryWhole g (getD hs 0 0) (getD ks 0 0) ∷ carryWhole g (getD hs 1 0) (getD ks 1 0) ∷ carryWhole g (getD hs 2 0) (getD ks 2 0) ∷ [])
+    (zipWith (carryWhole g) hs ks)
+unfolding zipWith
+carry-three g hs ks h k = ap₂ (zipWith (carryWhole g)) (three hs h) (three ks k)
+
+pub class-three : (g : ℕ) (ks : List ℕ) → length ks ≡ 3
+    → _≡_ {A = List ℕ} (carryClass g (getD ks 0 0) ∷ carryClass g (getD ks 1 0) ∷ carryClass g (getD ks 2 0) ∷ []) (map (carryClass g) ks)
+class-three g ks k = ap (map (carryClass g)) (three ks k)

@@ -1,6 +1,6 @@
 -- Tests of the first clocks, one turn of a loop after the other.
-use mathlib.Core.Path.{_≡_, refl, ap, ap₂, _∙_}
-use mathlib.Core.Bool.{Bool, true, false, _&&_, _||_}
+use mathlib.Core.Path.{_≡_, refl, sym, ap, ap₂, _∙_}
+use mathlib.Core.Bool.{Bool, true, false, cond, _&&_, _||_}
 use mathlib.Core.List.{List, [], _∷_, zipWith}
 use Prim.Native.Nat.{ℕ, zero, suc, _+_, _≤_, _<_}
 use native.Mathlib.Numerals.{add-one}
@@ -8,8 +8,11 @@ use native.Mathlib.Omega.{arith}
 use borrow.Author.Tests.{eq-eqb, ne-eqb}
 use lib.Dec.{eqb}
 use lib.ListN.{length, getD, take}
+use lib.Seq.{take-all}
 use Rattle.automaton.specs.Tests.{occurs, every}
+use Rattle.automaton.specs.Ranks.{rank, mask}
 use Rattle.automaton.proofs.Tests.{&&-left, &&-right, &&-intro}
+use Rattle.automaton.proofs.Ranks.{rank-in, rank-out}
 
 pub every-none : (p : ℕ → ℕ → Bool) (xs : List ℕ) → every p (take 0 xs) ≡ true
 unfolding every
@@ -73,6 +76,18 @@ occurs-more v xs j h e n = ap (λ (m : ℕ). occurs v (take m xs)) (add-one j) �
 pub occurs-all : (v : ℕ) (xs : List ℕ) (k j : ℕ) → j ≤ k → k ≤ j → occurs v (take j xs) ≡ false → occurs v (take k xs) ≡ false
 occurs-all v xs k j h l e = let q : k ≡ j = omega arith in ap (λ (n : ℕ). occurs v (take n xs)) q ∙ e
 
+-- ---- ranks
+
+module _ (xs : List ℕ) (three : length xs ≡ 3) (v n : ℕ) (so-far : n ≡ rank xs v) where
+  first-three : occurs (v + 1) (take 3 xs) ≡ occurs (suc v) xs
+  first-three = ap₂ occurs (add-one v) (take-all 3 xs (omega arith))
+
+  pub rank-counts : occurs (v + 1) (take 3 xs) ≡ true → n + 1 ≡ rank xs (v + 1)
+  rank-counts o = add-one n ∙ ap suc so-far ∙ sym (ap (rank xs) (add-one v) ∙ rank-in xs v (sym first-three ∙ o))
+
+  pub rank-passes : occurs (v + 1) (take 3 xs) ≡ false → n ≡ rank xs (v + 1)
+  rank-passes o = so-far ∙ sym (ap (rank xs) (add-one v) ∙ rank-out xs v (sym first-three ∙ o))
+
 -- ---- two lists entry by entry
 
 pub zip-at : (f : ℕ → ℕ → ℕ) (xs ys : List ℕ) (j : ℕ) → j < length xs → j < length ys → getD (zipWith f xs ys) j 0 ≡ f (getD xs j 0) (getD ys j 0)
@@ -88,3 +103,14 @@ zip-long f [] ys n h l = h
 zip-long f (x ∷ xs) [] n h l = absurd (omega arith)
 zip-long f (x ∷ xs) (y ∷ ys) zero h l = absurd (omega arith)
 zip-long f (x ∷ xs) (y ∷ ys) (suc n) h l = ap suc (zip-long f xs ys n (omega arith) (omega arith))
+
+-- a reset raises nothing
+pub mask-below : (b : ℕ) (r : ℕ → Bool) (xs : List ℕ) → ((j : ℕ) → getD xs j 0 < b) → (j : ℕ) → getD (mask r xs) j 0 < b
+unfolding mask
+mask-below b r [] h j = h j
+mask-below b r (x ∷ xs) h zero = at (r 0)
+  where
+    at : (t : Bool) → cond t 0 x < b
+    at true = omega (arith, h 0)
+    at false = h 0
+mask-below b r (x ∷ xs) h (suc j) = mask-below b (λ i. r (suc i)) xs (λ i. h (suc i)) j

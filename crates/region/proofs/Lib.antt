@@ -4,3 +4,5 @@ pub mod ClockLaws
 pub mod ArrayLaws
 pub mod NodeLaws
 pub mod EdgeLaws
+pub mod DelayLaws
+pub mod SheetLaws

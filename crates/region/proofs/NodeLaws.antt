@@ -1,5 +1,5 @@
 -- The node of a number in arrays.
-use mathlib.Core.Path.{_≡_, refl, sym, ap, ap₂, _∙_}
+use mathlib.Core.Path.{_≡_, refl, sym, ap, ap₂, _∙_, subst}
 use mathlib.Core.Bool.{Bool}
 use mathlib.Core.List.{List, [], _∷_, map, zipWith}
 use Prim.Native.Nat.{ℕ, zero, suc, _+_, _^_, min, _≤_, _<_}
@@ -79,19 +79,29 @@ sized k x = record {
   classes = list-long (λ j. bitsOf x 2 (classAt firstLayout j)) 0 k;
 }
 
-pub class-below : (k x j : ℕ) → getD (inArrays (nodeOf firstLayout k x) .region .class) j 0 < 4
+class-below : (k x j : ℕ) → getD (inArrays (nodeOf firstLayout k x) .region .class) j 0 < 4
 unfolding nodeOf
 class-below k x = below-padded 4 (listFrom (λ j. bitsOf x 2 (classAt firstLayout j)) 0 k) (omega arith)
     (list-below 4 (omega arith) (λ j. bitsOf x 2 (classAt firstLayout j)) (λ j. mod-lt _ (lit< tt)) 0 k)
 
-pub whole-below : (k x j : ℕ) → getD (inArrays (nodeOf firstLayout k x) .region .whole) j 0 < 16
+whole-below : (k x j : ℕ) → getD (inArrays (nodeOf firstLayout k x) .region .whole) j 0 < 16
 unfolding nodeOf
 whole-below k x = below-padded 16 (listFrom (λ j. bitsOf x 4 (wholeAt firstLayout j)) 0 k) (omega arith)
     (list-below 16 (omega arith) (λ j. bitsOf x 4 (wholeAt firstLayout j)) (λ j. mod-lt _ (lit< tt)) 0 k)
 
-pub corner-below : (k x : ℕ) → nodeOf firstLayout k x .corner < 4
+corner-below : (k x : ℕ) → nodeOf firstLayout k x .corner < 4
 unfolding nodeOf
 corner-below k x = mod-lt _ (lit< tt)
+
+module _ (n : Node) (k x : ℕ) (is : n ≡ inArrays (nodeOf firstLayout k x)) where
+  pub corner-of : n .corner < 4
+  corner-of = subst (λ (m : Node). m .corner < 4) (sym is) (corner-below k x)
+
+  pub class-of : (j : ℕ) → getD (n .region .class) j 0 < 4
+  class-of j = subst (λ (m : Node). getD (m .region .class) j 0 < 4) (sym is) (class-below k x j)
+
+  pub whole-of : (j : ℕ) → getD (n .region .whole) j 0 < 16
+  whole-of j = subst (λ (m : Node). getD (m .region .whole) j 0 < 16) (sym is) (whole-below k x j)
 
 -- ---- what is done to the arrays is done to the node
 

@@ -1,22 +1,20 @@
+-- What was read steps as its bytes do.
+use mathlib.Core.Path.{_≡_, sym, ap, ap₂, _∙_}
+use Rattle.sheet.specs.declared.Sheet.{Sheet}
+use Rattle.region.specs.Step.{stepIn}
+use Rattle.region.proofs.SheetLaws.{read-steps}
 use borrow.Author.Needs.{needs}
 use Rattle.region.proofs.step.Statement.{statement}
 use Rattle.region.proofs.step.Tie as tie
-use Rattle.region.proofs.step.Reads as reads
-use Rattle.region.proofs.step.Lts as lts
-use Rattle.region.proofs.step_in.Reads as step-in-reads
-use Rattle.sheet.proofs.read.Reads as read-reads
 
--- src/lib.rt:89:13
 read-requires : tie.Need-read-requires
 read-requires c κs = search needs
 
--- src/lib.rt:89:5
 step-in-requires : tie.Need-step-in-requires
 step-in-requires c κs = search needs
 
--- src/lib.rt:86:1
 returns : tie.Need-returns
-returns c = ?
+returns c = c .step-in .ensures ∙ ap (λ (s : Sheet). stepIn s (c .before .before .before .args .number) (c .before .before .before .args .code)) (c .before .read .ensures) ∙ read-steps (c .before .before .before .args .sheet .now) (c .before .before .before .args .number) (c .before .before .before .args .code)
 
 pub step-spec : {M : Type 1} → statement M
 step-spec = tie.close (tie.spec read-requires step-in-requires returns)

@@ -1,38 +1,41 @@
+-- Clock by clock.
+use mathlib.Core.Path.{refl, ap₂}
+use mathlib.Core.List.{_∷_}
+use native.Mathlib.Numerals.{add-one}
 use borrow.Author.Needs.{needs}
 use Rattle.region.proofs.delays.after_rise.Statement.{statement}
 use Rattle.region.proofs.delays.after_rise.Tie as tie
 
--- src/steps.rt:153:32
 element-copy-out-risen-class : tie.Need-element-copy-out-risen-class
 element-copy-out-risen-class c = search needs
 
--- src/steps.rt:153:9
 risen-class-requires : tie.Need-risen-class-requires
-risen-class-requires c κs = ?
+risen-class-requires c κs = c .before .before .before .pre .1 0
 
--- src/steps.rt:154:32
 element-copy-out-risen-class-2 : tie.Need-element-copy-out-risen-class-2
 element-copy-out-risen-class-2 c = search needs
 
--- src/steps.rt:154:9
 risen-class-requires-2 : tie.Need-risen-class-requires-2
-risen-class-requires-2 c κs = ?
+risen-class-requires-2 c κs = c .before .before .before .before .before .pre .1 1
 
--- src/steps.rt:155:32
 element-copy-out-risen-class-3 : tie.Need-element-copy-out-risen-class-3
 element-copy-out-risen-class-3 c = search needs
 
--- src/steps.rt:155:9
 risen-class-requires-3 : tie.Need-risen-class-requires-3
-risen-class-requires-3 c κs = ?
+risen-class-requires-3 c κs = c .before .before .before .before .before .before .before .pre .1 2
 
--- src/steps.rt:161:17
 add-t7 : tie.Need-add-t7
 add-t7 c = search needs
 
--- src/steps.rt:146:1
 returns : tie.Need-returns
-returns c = ?
+returns c = λ i. record {
+      location = c .before .before .before .before .before .before .before .before .before .args .node .location;
+      region = record {
+        whole = c .before .before .before .before .before .before .before .before .before .args .node .region .whole;
+        class = ap₂ _∷_ (c .before .before .before .before .before .risen-class .ensures) (ap₂ _∷_ (c .before .before .before .risen-class2 .ensures) (ap₂ _∷_ (c .before .risen-class3 .ensures) refl)) i;
+      };
+      corner = add-one (c .before .before .before .before .before .before .before .before .before .args .node .corner) i;
+    }
 
 pub after-rise-spec : {M : Type 1} → statement M
 after-rise-spec =

@@ -1,64 +1,46 @@
+-- By whether some clock has class 0.
+use mathlib.Core.Path.{_≡_, sym, ap, ap₂, _∙_}
+use Rattle.region.proofs.NodeLaws.{corner-of, class-of, whole-of}
+use Rattle.region.proofs.DelayLaws.{risen, carried, stays}
 use borrow.Author.Needs.{needs}
 use Rattle.region.proofs.delays.move_step.Statement.{statement}
 use Rattle.region.proofs.delays.move_step.Tie as tie
-use Rattle.region.proofs.delays.move_step.Reads as reads
-use Rattle.region.proofs.delays.move_step.Lts as lts
-use Rattle.region.proofs.delays.after_carry.Reads as after-carry-reads
-use Rattle.region.proofs.delays.after_rise.Reads as after-rise-reads
-use Rattle.region.proofs.delays.land.Reads as land-reads
-use Rattle.region.proofs.few.Reads as few-reads
-use Rattle.region.proofs.numbers.unpack.Reads as unpack-reads
-use Rattle.region.proofs.ranks.largest_of.Reads as largest-of-reads
-use Rattle.region.proofs.ranks.occurs_in.Reads as occurs-in-reads
-use Rattle.region.proofs.refused.Reads as refused-reads
 
--- src/delays.rt:127:9
 few-requires : tie.Need-few-requires
 few-requires c κs = search needs
 
--- src/delays.rt:128:9
 unpack-requires : tie.Need-unpack-requires
 unpack-requires c κs = search needs
 
--- src/delays.rt:132:8
 occurs-in-requires : tie.Need-occurs-in-requires
 occurs-in-requires c κs = search needs
 
--- src/delays.rt:133:21
 after-rise-requires : tie.Need-after-rise-requires
-after-rise-requires c κs = ?
+after-rise-requires c κs = (corner-of (c .before .before .before .before .before .unpack .result) (c .before .before .before .before .before .before .few .result) (c .before .before .before .before .before .before .before .args .number) (c .before .before .before .before .before .unpack .ensures), class-of (c .before .before .before .before .before .unpack .result) (c .before .before .before .before .before .before .few .result) (c .before .before .before .before .before .before .before .args .number) (c .before .before .before .before .before .unpack .ensures))
 
--- src/delays.rt:133:9
 land-requires : tie.Need-land-requires
 land-requires c κs = search needs
 
--- src/delays.rt:133:9
 returns : tie.Need-returns
-returns c = ?
+returns c = c .land .ensures ∙ risen (c .before .before .before .before .before .before .before .before .before .args .clocks) (c .before .before .before .before .before .before .before .before .before .args .location) (c .before .before .before .before .before .before .before .before .before .args .number) (c .before .before .before .before .before .before .before .before .few .result) (c .before .before .before .before .before .before .before .unpack .result) (c .before .before .before .before .before .before .before .before .few .ensures) (c .before .before .before .before .before .before .before .unpack .ensures) (c .before .after-rise .result) (c .before .after-rise .ensures) (sym (c .before .before .before .occurs-in .ensures) ∙ c .before .before .if1 .taken)
 
--- src/delays.rt:135:9
 largest-of-requires : tie.Need-largest-of-requires
 largest-of-requires c κs = search needs
 
--- src/delays.rt:137:21
 after-carry-requires : tie.Need-after-carry-requires
-after-carry-requires c κs = ?
+after-carry-requires c κs = whole-of (c .before .before .before .before .before .before .before .before .unpack .result) (c .before .before .before .before .before .before .before .before .before .few .result) (c .before .before .before .before .before .before .before .before .before .before .args .number) (c .before .before .before .before .before .before .before .before .unpack .ensures)
 
--- src/delays.rt:137:9
 land-requires-2 : tie.Need-land-requires-2
 land-requires-2 c κs = search needs
 
--- src/delays.rt:137:9
 returns-2 : tie.Need-returns-2
-returns-2 c = ?
+returns-2 c = c .land2 .ensures ∙ carried (c .before .before .before .before .before .before .before .before .before .before .before .before .args .clocks) (c .before .before .before .before .before .before .before .before .before .before .before .before .args .location) (c .before .before .before .before .before .before .before .before .before .before .before .before .args .number) (c .before .before .before .before .before .before .before .before .before .before .before .few .result) (c .before .before .before .before .before .before .before .before .before .before .unpack .result) (c .before .before .before .before .before .before .before .before .before .before .before .few .ensures) (c .before .before .before .before .before .before .before .before .before .before .unpack .ensures) (c .before .before .before .before .largest-of .result) (c .before .before .before .before .largest-of .ensures) (c .before .after-carry .result) (c .before .after-carry .ensures) (sym (c .before .before .before .before .before .before .occurs-in .ensures) ∙ c .before .before .before .before .before .if1 .left) (c .before .before .if2 .taken)
 
--- src/delays.rt:139:5
 refused-requires : tie.Need-refused-requires
 refused-requires c κs = search needs
 
--- src/delays.rt:124:1
 returns-3 : tie.Need-returns-3
-returns-3 c = ?
+returns-3 c = c .refused .ensures ∙ stays (c .before .before .before .before .before .before .before .before .before .before .before .args .clocks) (c .before .before .before .before .before .before .before .before .before .before .before .args .location) (c .before .before .before .before .before .before .before .before .before .before .before .args .number) (c .before .before .before .before .before .before .before .before .before .before .few .result) (c .before .before .before .before .before .before .before .before .before .unpack .result) (c .before .before .before .before .before .before .before .before .before .before .few .ensures) (c .before .before .before .before .before .before .before .before .before .unpack .ensures) (c .before .before .before .largest-of .result) (c .before .before .before .largest-of .ensures) (sym (c .before .before .before .before .before .occurs-in .ensures) ∙ c .before .before .before .before .if1 .left) (c .before .if2 .left)
 
 pub move-step-spec : {M : Type 1} → statement M
 move-step-spec =

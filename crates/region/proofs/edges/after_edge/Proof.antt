@@ -1,27 +1,31 @@
+-- The masked region, closed up.
+use mathlib.Core.Path.{_≡_, sym, ap, _∙_, subst}
+use Prim.Native.Nat.{_<_}
+use lib.ListN.{getD}
+use Rattle.automaton.specs.Ranks.{rank, closeUp}
+use Rattle.sheet.specs.Maps.{stands}
+use Rattle.region.specs.declared.Region.{Region}
+use Rattle.region.proofs.ClockLaws.{mask-below}
 use borrow.Author.Needs.{needs}
 use Rattle.region.proofs.edges.after_edge.Statement.{statement}
 use Rattle.region.proofs.edges.after_edge.Tie as tie
-use Rattle.region.proofs.edges.after_edge.Reads as reads
-use Rattle.region.proofs.edges.after_edge.Lts as lts
-use Rattle.region.proofs.edges.masked.Reads as masked-reads
-use Rattle.region.proofs.ranks.close_up.Reads as close-up-reads
-use Rattle.region.proofs.ranks.rank_of.Reads as rank-of-reads
 
--- src/edges.rt:51:9
 masked-requires : tie.Need-masked-requires
 masked-requires c κs = search needs
 
--- src/edges.rt:54:9
 close-up-requires : tie.Need-close-up-requires
-close-up-requires c κs = ?
+close-up-requires c κs = λ j. subst (λ (m : Region). getD (m .class) j 0 < 4) (sym (c .before .before .masked .ensures)) (mask-below 4 (stands (c .before .before .before .args .reset)) (c .before .before .before .args .node .region .class) (c .before .before .before .pre .1) j)
 
--- src/edges.rt:59:17
 rank-of-requires : tie.Need-rank-of-requires
 rank-of-requires c κs = search needs
 
--- src/edges.rt:47:1
 returns : tie.Need-returns
-returns c = ?
+returns c = 
+    let m = c .before .before .before .before .masked .ensures in λ i. record {
+      location = c .before .before .before .before .before .args .target;
+      region = record { whole = m i .whole; class = (c .before .close-up .ensures ∙ ap (λ (r : Region). closeUp (r .class)) m) i };
+      corner = (c .rank-of .ensures ∙ ap (λ (r : Region). rank (r .class) (c .before .before .before .before .before .args .node .corner)) m) i;
+    }
 
 pub after-edge-spec : {M : Type 1} → statement M
 after-edge-spec = tie.close (tie.spec masked-requires close-up-requires rank-of-requires returns)

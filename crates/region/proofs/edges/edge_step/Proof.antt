@@ -1,67 +1,52 @@
+-- The three tests of an edge, in turn.
+use mathlib.Core.Path.{_≡_, sym, ap, ap₂, _∙_}
 use borrow.Author.Needs.{needs}
+use borrow.Author.Tests.{not-true, not-false}
+use mir.Syntax.{w16}
+use mir.ValLaws.{toZ-ofZ}
+use Rattle.region.proofs.NodeLaws.{corner-of, class-of}
+use Rattle.region.proofs.EdgeLaws.{elsewhere, unguarded, outside, taken}
 use Rattle.region.proofs.edges.edge_step.Statement.{statement}
 use Rattle.region.proofs.edges.edge_step.Tie as tie
-use Rattle.region.proofs.edges.edge_step.Reads as reads
-use Rattle.region.proofs.edges.edge_step.Lts as lts
-use Rattle.region.proofs.bounds.guards_hold.Reads as guards-hold-reads
-use Rattle.region.proofs.bounds.inside.Reads as inside-reads
-use Rattle.region.proofs.edges.after_edge.Reads as after-edge-reads
-use Rattle.region.proofs.few.Reads as few-reads
-use Rattle.region.proofs.numbers.pack.Reads as pack-reads
-use Rattle.region.proofs.numbers.unpack.Reads as unpack-reads
-use Rattle.region.proofs.refused.Reads as refused-reads
 
--- src/edges.rt:66:9
 few-requires : tie.Need-few-requires
 few-requires c κs = search needs
 
--- src/edges.rt:67:9
 unpack-requires : tie.Need-unpack-requires
 unpack-requires c κs = search needs
 
--- src/edges.rt:69:9
 refused-requires : tie.Need-refused-requires
 refused-requires c κs = search needs
 
--- src/edges.rt:69:9
 returns : tie.Need-returns
-returns c = ?
+returns c = c .refused .ensures ∙ elsewhere (c .before .before .before .before .before .before .args .clocks) (c .before .before .before .before .before .before .args .edge) (c .before .before .before .before .before .before .args .target) (c .before .before .before .before .before .before .args .number) (c .before .before .before .before .before .few .result) (c .before .before .before .before .unpack .result) (c .before .before .before .before .before .few .ensures) (c .before .before .before .before .unpack .ensures) (c .before .if1 .taken)
 
--- src/edges.rt:73:9
 guards-hold-requires : tie.Need-guards-hold-requires
 guards-hold-requires c κs = search needs
 
--- src/edges.rt:74:9
 refused-requires-2 : tie.Need-refused-requires-2
 refused-requires-2 c κs = search needs
 
--- src/edges.rt:74:9
 returns-2 : tie.Need-returns-2
-returns-2 c = ?
+returns-2 c = c .refused2 .ensures ∙ unguarded (c .before .before .before .before .before .before .before .before .before .before .args .clocks) (c .before .before .before .before .before .before .before .before .before .before .args .edge) (c .before .before .before .before .before .before .before .before .before .before .args .target) (c .before .before .before .before .before .before .before .before .before .before .args .number) (c .before .before .before .before .before .before .before .before .before .few .result) (c .before .before .before .before .before .before .before .before .unpack .result) (c .before .before .before .before .before .before .before .before .before .few .ensures) (c .before .before .before .before .before .before .before .before .unpack .ensures) (sym (c .before .before .guards-hold .ensures) ∙ not-true (c .before .before .guards-hold .result) (c .before .if2 .taken))
 
--- src/edges.rt:76:9
 after-edge-requires : tie.Need-after-edge-requires
-after-edge-requires c κs = ?
+after-edge-requires c κs = (corner-of (c .before .before .before .before .before .before .before .unpack .result) (c .before .before .before .before .before .before .before .before .few .result) (c .before .before .before .before .before .before .before .before .before .args .number) (c .before .before .before .before .before .before .before .unpack .ensures), class-of (c .before .before .before .before .before .before .before .unpack .result) (c .before .before .before .before .before .before .before .before .few .result) (c .before .before .before .before .before .before .before .before .before .args .number) (c .before .before .before .before .before .before .before .unpack .ensures))
 
--- src/edges.rt:78:9
 inside-requires : tie.Need-inside-requires
 inside-requires c κs = search needs
 
--- src/edges.rt:79:9
 refused-requires-3 : tie.Need-refused-requires-3
 refused-requires-3 c κs = search needs
 
--- src/edges.rt:79:9
 returns-3 : tie.Need-returns-3
-returns-3 c = ?
+returns-3 c = c .refused3 .ensures ∙ outside (c .before .before .before .before .before .before .before .before .before .before .before .before .before .before .args .clocks) (c .before .before .before .before .before .before .before .before .before .before .before .before .before .before .args .edge) (c .before .before .before .before .before .before .before .before .before .before .before .before .before .before .args .target) (c .before .before .before .before .before .before .before .before .before .before .before .before .before .before .args .number) (c .before .before .before .before .before .before .before .before .before .before .before .before .before .few .result) (c .before .before .before .before .before .before .before .before .before .before .before .before .unpack .result) (c .before .before .before .before .before .before .before .before .before .before .before .before .before .few .ensures) (c .before .before .before .before .before .before .before .before .before .before .before .before .unpack .ensures) (c .before .before .before .before .after-edge .result) (c .before .before .before .before .after-edge .ensures) (sym (c .before .before .inside .ensures) ∙ not-true (c .before .before .inside .result) (c .before .if3 .taken))
 
--- src/edges.rt:83:17
 pack-requires : tie.Need-pack-requires
 pack-requires c κs = search needs
 
--- src/edges.rt:63:1
 returns-4 : tie.Need-returns-4
-returns-4 c = ?
+returns-4 c = taken (c .before .before .before .before .before .before .before .before .before .before .before .before .before .before .before .args .clocks) (c .before .before .before .before .before .before .before .before .before .before .before .before .before .before .before .args .edge) (c .before .before .before .before .before .before .before .before .before .before .before .before .before .before .before .args .target) (c .before .before .before .before .before .before .before .before .before .before .before .before .before .before .before .args .number) (c .before .before .before .before .before .before .before .before .before .before .before .before .before .before .few .result) (c .before .before .before .before .before .before .before .before .before .before .before .before .before .unpack .result) (c .before .before .before .before .before .before .before .before .before .before .before .before .before .before .few .ensures) (c .before .before .before .before .before .before .before .before .before .before .before .before .before .unpack .ensures) (c .before .before .before .before .before .after-edge .result) (c .before .before .before .before .before .after-edge .ensures) _ (toZ-ofZ w16 (c .before .before .before .before .before .before .before .before .before .before .before .before .before .before .before .args .edge .cost) (search needs)) (c .before .before .before .before .before .before .before .before .before .before .if1 .left) (sym (c .before .before .before .before .before .before .before .guards-hold .ensures) ∙ not-false (c .before .before .before .before .before .before .before .guards-hold .result) (c .before .before .before .before .before .before .if2 .left)) (sym (c .before .before .before .inside .ensures) ∙ not-false (c .before .before .before .inside .result) (c .before .before .if3 .left)) (c .before .pack .result) (c .before .pack .ensures)
 
 pub edge-step-spec : {M : Type 1} → statement M
 edge-step-spec =

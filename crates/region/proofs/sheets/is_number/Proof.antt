@@ -1,54 +1,41 @@
+-- The parts of question 15, in turn.
+use mathlib.Core.Path.{_≡_, sym, ap, ap₂, _∙_}
+use borrow.Author.Tests.{not-true, not-false}
+use Rattle.region.proofs.NodeLaws.{class-of}
+use Rattle.region.proofs.SheetLaws.{other-number, not-there, no-corner, there}
 use borrow.Author.Needs.{needs}
 use Rattle.region.proofs.sheets.is_number.Statement.{statement}
 use Rattle.region.proofs.sheets.is_number.Tie as tie
-use Rattle.region.proofs.sheets.is_number.Reads as reads
-use Rattle.region.proofs.sheets.is_number.Lts as lts
-use Rattle.region.proofs.bounds.inside.Reads as inside-reads
-use Rattle.region.proofs.few.Reads as few-reads
-use Rattle.region.proofs.numbers.pack.Reads as pack-reads
-use Rattle.region.proofs.numbers.unpack.Reads as unpack-reads
-use Rattle.region.proofs.sheets.is_cornered.Reads as is-cornered-reads
-use Rattle.region.proofs.sheets.location_of.Reads as location-of-reads
 
--- src/sheets.rt:47:9
 few-requires : tie.Need-few-requires
 few-requires c κs = search needs
 
--- src/sheets.rt:48:9
 unpack-requires : tie.Need-unpack-requires
 unpack-requires c κs = search needs
 
--- src/sheets.rt:49:8
 pack-requires : tie.Need-pack-requires
 pack-requires c κs = search needs
 
--- src/sheets.rt:50:9
 returns : tie.Need-returns
-returns c = ?
+returns c = other-number (c .before .before .before .before .args .sheet) (c .before .before .before .before .args .number) (c .before .before .before .few .result) (c .before .before .unpack .result) (c .before .before .before .few .ensures) (c .before .before .unpack .ensures) (λ q. c .if1 .taken (c .before .pack .ensures ∙ q))
 
--- src/sheets.rt:54:9
 returns-2 : tie.Need-returns-2
-returns-2 c = ?
+returns-2 c = not-there (c .before .before .before .before .before .before .args .sheet) (c .before .before .before .before .before .before .args .number) (c .before .before .before .before .before .few .result) (c .before .before .before .before .unpack .result) (c .before .before .before .before .before .few .ensures) (c .before .before .before .before .unpack .ensures) (c .if2 .taken)
 
--- src/sheets.rt:58:9
 is-cornered-requires : tie.Need-is-cornered-requires
-is-cornered-requires c κs = ?
+is-cornered-requires c κs = class-of (c .before .before .before .before .before .before .unpack .result) (c .before .before .before .before .before .before .before .few .result) (c .before .before .before .before .before .before .before .before .args .number) (c .before .before .before .before .before .before .unpack .ensures)
 
--- src/sheets.rt:59:9
 returns-3 : tie.Need-returns-3
-returns-3 c = ?
+returns-3 c = no-corner (c .before .before .before .before .before .before .before .before .before .before .args .sheet) (c .before .before .before .before .before .before .before .before .before .before .args .number) (c .before .before .before .before .before .before .before .before .before .few .result) (c .before .before .before .before .before .before .before .before .unpack .result) (c .before .before .before .before .before .before .before .before .before .few .ensures) (c .before .before .before .before .before .before .before .before .unpack .ensures) (sym (c .before .is-cornered .ensures) ∙ not-true (c .before .is-cornered .result) (c .if3 .taken))
 
--- src/sheets.rt:62:9
 location-of-requires : tie.Need-location-of-requires
 location-of-requires c κs = search needs
 
--- src/sheets.rt:64:5
 inside-requires : tie.Need-inside-requires
 inside-requires c κs = search needs
 
--- src/sheets.rt:44:1
 returns-4 : tie.Need-returns-4
-returns-4 c = ?
+returns-4 c = c .inside .ensures ∙ there (c .before .before .before .before .before .before .before .before .before .before .before .before .before .before .args .sheet) (c .before .before .before .before .before .before .before .before .before .before .before .before .before .before .args .number) (c .before .before .before .before .before .before .before .before .before .before .before .before .before .few .result) (c .before .before .before .before .before .before .before .before .before .before .before .before .unpack .result) (c .before .before .before .before .before .before .before .before .before .before .before .before .before .few .ensures) (c .before .before .before .before .before .before .before .before .before .before .before .before .unpack .ensures) (sym (c .before .before .before .before .before .before .before .before .before .before .before .pack .ensures) ∙ c .before .before .before .before .before .before .before .before .before .before .if1 .left) (c .before .before .before .before .before .before .before .before .if2 .left) (sym (c .before .before .before .before .before .is-cornered .ensures) ∙ not-false (c .before .before .before .before .before .is-cornered .result) (c .before .before .before .before .if3 .left)) (c .before .before .location-of .result) (c .before .before .location-of .ensures)
 
 pub is-number-spec : {M : Type 1} → statement M
 is-number-spec =
