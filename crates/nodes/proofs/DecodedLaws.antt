@@ -3,13 +3,13 @@ use mathlib.Core.Path.{_≡_, refl, sym, ap, _∙_, subst}
 use mathlib.Core.Bool.{Bool, cond}
 use mathlib.Core.List.{List}
 use mathlib.Core.Option.{none, Option·getD, Option·map}
-use Prim.Native.Nat.{ℕ, zero, suc, _+_, min, _≤_, _<_}
+use Prim.Native.Nat.{ℕ, zero, suc, _+_, _≤_, _<_}
 use native.Mathlib.Nat.{add-zero}
 use native.Mathlib.Omega.{arith}
 use borrow.Author.Tests.{eq-eqb, lt-ltb, lt-leb}
 use lib.Dec.{eqb}
 use lib.ListN.{getD}
-use Rattle.automaton.specs.Automaton.{Automaton, inBounds, inGuards}
+use Rattle.automaton.specs.Automaton.{inBounds, inGuards}
 use Rattle.automaton.specs.Nodes.{Node}
 use Rattle.automaton.specs.Steps.{edgeStep, unitStep, moveStep, step}
 use Rattle.automaton.proofs.Codes.{step-edge}
@@ -17,7 +17,7 @@ use Rattle.sheet.specs.Maps.{stands}
 use Rattle.sheet.specs.Fields.{first}
 use Rattle.sheet.specs.Records.{fieldAt, recordAt, locationAt, edgeAt, locationsIn, clocksIn, edgesIn}
 use Rattle.sheet.specs.Questions.{checkOf}
-use Rattle.sheet.specs.Decoded.{filled, clockBytes, locationOf, edgeOf, blankLocation, blankEdge, locationsOf, edgesOf, decodedSheet, refusedSheet, readOf}
+use Rattle.sheet.specs.Decoded.{clockBytes, locationOf, edgeOf, blankLocation, blankEdge, locationsOf, edgesOf, decodedSheet, refusedSheet, readOf}
 use Rattle.sheet.specs.declared.fields.Kind.{Kind}
 use Rattle.sheet.specs.declared.fields.Kind.the-variants.{LocationRecord, EdgeRecord}
 use Rattle.sheet.specs.declared.Location.{Location}

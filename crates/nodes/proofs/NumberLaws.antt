@@ -1,7 +1,7 @@
 -- Numbers and nodes: they are the same, and so are the steps, walks, cycles and potentials on them.
-use mathlib.Core.Path.{_≡_, sym, ap, ap₂, _∙_, subst}
-use mathlib.Core.Bool.{Bool, true, _&&_}
-use mathlib.Core.Option.{Option, some, Option·map}
+use mathlib.Core.Path.{_≡_, sym, ap, _∙_, subst}
+use mathlib.Core.Bool.{true}
+use mathlib.Core.Option.{some, Option·map}
 use Prim.Native.Nat.{ℕ, _^_, _≤_, _<_}
 use native.Mathlib.Omega.{arith}
 use borrow.Author.Tests.{eqb-true, eq-eqb}
@@ -13,19 +13,18 @@ use Rattle.automaton.specs.Automaton.{Automaton}
 use Rattle.automaton.specs.Priced.{Priced}
 use Rattle.automaton.specs.Nodes.{Node, isNode, startNode, Sound}
 use Rattle.automaton.specs.Steps.{step}
-use Rattle.automaton.specs.Walks.{Walk, Reachable, ReachableCycle}
+use Rattle.automaton.specs.Walks.{Reachable, ReachableCycle}
 use Rattle.automaton.specs.Weights.{weight, Feasible}
 use Rattle.automaton.specs.Runs.{State, Member, run, startState}
 use Rattle.automaton.specs.Loops.{NoLoopBelow}
 use Rattle.automaton.proofs.Tests.{&&-left, &&-right, &&-intro}
-use Rattle.automaton.proofs.Lists.{Each}
 use Rattle.automaton.proofs.Codes.{unit-or-move}
 use Rattle.automaton.proofs.Nodes.{Proper, proper-of, class-small, corner-small, whole-small}
 use Rattle.automaton.proofs.Reached.{start-is-node, step-to-node}
 use Rattle.automaton.proofs.Comparison.{no-loop-below, run-weighs}
 use Rattle.nodes.specs.Numbers.{Layout, classAt, number, nodeOf, isNumber, stepBy, startNumber}
 use Rattle.nodes.proofs.Packing.{Fits, unpacked}
-use Rattle.nodes.proofs.Carried.{named, Named, named-some, Source, reach-named, reach-back, walk-named, cycle-named, cycle-back, feasible-back}
+use Rattle.nodes.proofs.Carried.{named, named-some, Source, reach-named, reach-back, cycle-named, cycle-back, feasible-back}
 
 -- the nodes of an automaton have room in a layout
 pub record Room (y : Layout) (A : Automaton) : Type 0 where

@@ -1,6 +1,5 @@
 -- The automaton that a decoded sheet means, whatever stands in it, and the ones of its records.
-use mathlib.Core.Bool.{Bool, not}
-use mathlib.Core.List.{List}
+use mathlib.Core.Bool.{not}
 use mathlib.Core.Option.{Option}
 use Prim.Native.Nat.{ℕ, min}
 use lib.Dec.{eqb}

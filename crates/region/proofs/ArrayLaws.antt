@@ -1,6 +1,6 @@
 -- Lists of up to three clocks in arrays of three: what is done to the array is done to the list.
 use mathlib.Core.Path.{_≡_, refl, sym, ap, ap₂, _∙_}
-use mathlib.Core.Bool.{Bool, true, false, cond, _||_}
+use mathlib.Core.Bool.{Bool, true, false, cond}
 use mathlib.Core.List.{List, [], _∷_, map, zipWith}
 use Prim.Native.Nat.{ℕ, zero, suc, _+_, _*_, _/_, _%_, _≤_, _<_, max}
 use native.Mathlib.Nat.{mod-eq-of-lt, div-one}
@@ -12,7 +12,6 @@ use lib.ListN.{length, getD, take, List·getD-map}
 use Rattle.automaton.specs.Tests.{oneMoreIf, occurs}
 use Rattle.automaton.specs.Ranks.{rank, closeUp, mask, largest}
 use Rattle.automaton.specs.Steps.{carryWhole, carryClass}
-use Rattle.automaton.proofs.Ranks.{rank-zero}
 use Rattle.automaton.proofs.Largest.{rank-length}
 use Rattle.nodes.specs.Numbers.{firstLayout, clocksFrom, bitsOf}
 use Rattle.region.specs.Arrays.{padded, packedClasses, closedEntry, risenClass}

@@ -1,8 +1,7 @@
 -- Delays by the tests of the location's record.
 use mathlib.Core.Path.{_≡_, refl, sym, ap, ap₂, _∙_}
 use mathlib.Core.Bool.{Bool, true, false, cond, _&&_, not}
-use mathlib.Core.List.{List}
-use mathlib.Core.Option.{Option, none, Option·map}
+use mathlib.Core.Option.{Option·map}
 use Prim.Native.Nat.{ℕ, _≤_, _<_}
 use native.Mathlib.Omega.{arith}
 use borrow.Author.Tests.{eq-eqb, ne-eqb, lt-ltb, le-ltb}
@@ -12,7 +11,7 @@ use lib.ListN.{take}
 use Rattle.automaton.specs.Tests.{only, occurs}
 use Rattle.automaton.specs.Automaton.{Automaton}
 use Rattle.automaton.specs.Ranks.{largest}
-use Rattle.automaton.specs.Priced.{Priced, free}
+use Rattle.automaton.specs.Priced.{free}
 use Rattle.automaton.specs.Nodes as automaton
 use Rattle.automaton.specs.Nodes.{inside, largestClass}
 use Rattle.automaton.specs.Steps.{someWhole, unitTo, unitStep, riseTo, carryTo, moveStep, step}

@@ -1,17 +1,15 @@
 -- An edge by the tests of its records.
 use mathlib.Core.Path.{_≡_, refl, sym, ap, ap₂, _∙_}
 use mathlib.Core.Bool.{Bool, true, false, _&&_}
-use mathlib.Core.List.{List}
-use mathlib.Core.Option.{Option, Option·map}
-use Prim.Native.Nat.{ℕ, _≤_}
+use mathlib.Core.Option.{Option·map}
+use Prim.Native.Nat.{ℕ}
 use borrow.Author.Tests.{eq-eqb, ne-eqb}
-use lib.Dec.{ltb, eqb}
+use lib.Dec.{eqb}
 use lib.IntN.{ℤ}
 use lib.ListN.{getD}
 use Rattle.automaton.specs.Tests.{only, every}
 use Rattle.automaton.specs.Bounds.{upperHolds, lowerHolds}
 use Rattle.automaton.specs.Automaton.{Automaton, inBounds, inGuards}
-use Rattle.automaton.specs.Priced.{Priced}
 use Rattle.automaton.specs.Nodes as automaton
 use Rattle.automaton.specs.Nodes.{intervals, inside}
 use Rattle.automaton.specs.Steps.{edgeTo, edgeAllowed, edgeStep, step}
@@ -24,7 +22,6 @@ use Rattle.nodes.proofs.Carried.{named}
 use Rattle.region.specs.Step.{refused, answered}
 use Rattle.region.specs.Arrays.{inArrays, fromArrays, boundsIn, guardsIn, guardHolds, afterEdge}
 use Rattle.region.specs.declared.Node.{Node}
-use Rattle.region.specs.declared.Region.{Region}
 use Rattle.region.specs.declared.Stepped.{Stepped}
 use Rattle.region.proofs.NodeLaws.{few-le, Sized, sized, same-number, same-intervals, edge-arrays, edge-sized}
 

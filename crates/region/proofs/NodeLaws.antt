@@ -1,29 +1,23 @@
 -- The node of a number in arrays.
 use mathlib.Core.Path.{_≡_, refl, sym, ap, ap₂, _∙_, subst}
-use mathlib.Core.Bool.{Bool}
 use mathlib.Core.List.{List, [], _∷_, map, zipWith}
-use Prim.Native.Nat.{ℕ, zero, suc, _+_, _^_, min, _≤_, _<_}
+use Prim.Native.Nat.{ℕ, zero, suc, _+_, _≤_, _<_}
 use native.Mathlib.Nat.{mod-lt}
 use native.Mathlib.Omega.{arith}
 use lib.Dec.{lit<}
 use lib.ListN.{length, getD, take, length-map}
-use Rattle.automaton.specs.Tests.{occurs, every}
-use Rattle.automaton.specs.Bounds.{interval, upperHolds, lowerHolds}
-use Rattle.automaton.specs.Ranks.{rank, closeUp, mask, largest}
-use Rattle.automaton.specs.Automaton.{Automaton, inBounds, inGuards}
+use Rattle.automaton.specs.Bounds.{interval}
+use Rattle.automaton.specs.Ranks.{rank, closeUp, mask}
 use Rattle.automaton.specs.Nodes as automaton
-use Rattle.automaton.specs.Nodes.{intervals, inside}
-use Rattle.automaton.specs.Steps.{riseTo, carryTo, carryWhole, carryClass}
+use Rattle.automaton.specs.Nodes.{intervals}
+use Rattle.automaton.specs.Steps.{riseTo, carryWhole, carryClass}
 use Rattle.automaton.proofs.Lists.{length-zip}
 use Rattle.automaton.proofs.Ranks.{length-mask, length-close}
 use Rattle.sheet.specs.Maps.{stands}
-use Rattle.sheet.specs.declared.Edge.{Edge}
-use Rattle.sheet.specs.declared.Location.{Location}
 use Rattle.nodes.specs.Numbers.{firstLayout, classAt, wholeAt, put, clocksFrom, number, bitsOf, listFrom, nodeOf}
-use Rattle.nodes.specs.Decoded.{fewClocks, boundIn, lowerIn, upperIn}
-use Rattle.region.specs.Arrays.{padded, inArrays, fromArrays, clockPart, intervalsIn, boundsIn, guardHolds, guardsIn, afterEdge, afterRise, afterCarry}
+use Rattle.nodes.specs.Decoded.{fewClocks}
+use Rattle.region.specs.Arrays.{padded, inArrays, fromArrays, clockPart, intervalsIn, afterEdge, afterRise, afterCarry}
 use Rattle.region.specs.declared.Node.{Node}
-use Rattle.region.specs.declared.Region.{Region}
 use Rattle.region.proofs.ArrayLaws.{three, take-padded, below-padded, rank-padded, close-padded, mask-padded, rise-padded, class-padded, whole-padded, zip-padded, clocks-padded}
 
 pub few-le : (k : ℕ) → fewClocks k ≤ 3

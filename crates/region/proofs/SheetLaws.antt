@@ -1,33 +1,30 @@
 -- Questions 15 and 16 of a decoded sheet, by the tests of its records; and that what was read steps as its bytes do.
-use mathlib.Core.Path.{_≡_, refl, sym, ap, ap₂, _∙_, subst}
+use mathlib.Core.Path.{_≡_, refl, sym, ap, ap₂, _∙_}
 use mathlib.Core.Bool.{Bool, true, false, cond, _&&_}
 use mathlib.Core.List.{List, [], _∷_}
-use mathlib.Core.Option.{Option·map}
 use Prim.Native.Nat.{ℕ, zero, suc, _≤_, _<_}
 use native.Mathlib.Omega.{arith}
 use borrow.Author.Tests.{eqb-true, eq-eqb, ne-eqb, le-leb, lt-leb, lt-ltb, le-ltb}
 use lib.Dec.{leb, ltb, eqb}
 use lib.ListN.{length, getD}
-use Rattle.automaton.specs.Tests.{only}
-use Rattle.automaton.specs.Bounds.{upperHolds, lowerHolds}
 use Rattle.automaton.specs.Ranks.{rank, largest}
-use Rattle.automaton.specs.Automaton.{Automaton, inBounds, inGuards}
+use Rattle.automaton.specs.Automaton.{inBounds}
 use Rattle.automaton.specs.Nodes as automaton
-use Rattle.automaton.specs.Nodes.{intervals, usesEachRank, inside, isNode}
-use Rattle.automaton.specs.Steps.{edgeTo, edgeStep, step}
+use Rattle.automaton.specs.Nodes.{usesEachRank, inside, isNode}
+use Rattle.automaton.specs.Steps.{edgeStep, step}
 use Rattle.automaton.proofs.Tests.{by-bool}
 use Rattle.sheet.specs.Questions.{checkOf}
 use Rattle.sheet.specs.Decoded.{blankEdge, decodedSheet, refusedSheet, readOf}
+use Rattle.sheet.specs.declared.Edge.{Edge}
 use Rattle.sheet.specs.declared.Location.{Location}
 use Rattle.sheet.specs.declared.Sheet.{Sheet}
-use Rattle.nodes.specs.Numbers.{firstLayout, number, nodeOf, isNumber, stepBy}
+use Rattle.nodes.specs.Numbers.{firstLayout, bitsOf, number, nodeOf, isNumber, stepBy}
 use Rattle.nodes.specs.Meaning.{meaning}
-use Rattle.nodes.specs.Decoded.{fewClocks, locationIn, decodedMeaning, alone}
-use Rattle.nodes.proofs.Carried.{named}
+use Rattle.nodes.specs.Decoded.{fewClocks, locationIn, edgeIn, decodedMeaning, alone}
 use Rattle.nodes.proofs.CheckedLaws.{sound, room}
 use Rattle.nodes.proofs.NumberLaws.{node-there}
 use Rattle.nodes.proofs.AgreeLaws.{Agree, numbers-agree, number-steps-agree}
-use Rattle.nodes.proofs.DecodedLaws.{read-passed, read-agrees}
+use Rattle.nodes.proofs.DecodedLaws.{read-agrees, edge-alone-number, delay-alone-number}
 use Rattle.region.specs.Step.{refused, answered, answerAt, stepOf, stepIn}
 use Rattle.region.specs.Arrays.{inArrays, fromArrays, boundsIn}
 use Rattle.region.specs.declared.Node.{Node}
@@ -93,9 +90,22 @@ module _ (s : Sheet) (x : ℕ) where
   unfolding stepBy step edgeStep decodedMeaning
   no-edge e h l = sym (simp (le-leb e 31 h, le-ltb e (s .edges) l))
 
-  pub no-code : (code : ℕ) → 33 < code → refused 16 ≡ answered (stepBy firstLayout (decodedMeaning s) x code)
+  pub no-code : (code : ℕ) → 31 < code → (code ≡ 32 → ⊥) → (code ≡ 33 → ⊥) → refused 16 ≡ answered (stepBy firstLayout (decodedMeaning s) x code)
   unfolding stepBy step
-  no-code code h = sym (simp (lt-leb code 31 (omega arith), ne-eqb code 32 (λ q. omega arith), ne-eqb code 33 (λ q. omega arith)))
+  no-code code h m n = sym (simp (lt-leb code 31 h, ne-eqb code 32 m, ne-eqb code 33 n))
+
+  -- an edge that it has, and a delay, by the records at hand
+  pub edge-there : (e : ℕ) → e ≤ 31 → e < s .edges → (w : Edge) → w ≡ edgeIn s e → (l : Location) → l ≡ locationIn s (w .target)
+      → answered (stepBy firstLayout (alone (s .clocks) w l) x 0) ≡ answered (stepBy firstLayout (decodedMeaning s) x e)
+  edge-there e h k w p l q =
+      ap₂ (λ (w : Edge) (l : Location). answered (stepBy firstLayout (alone (s .clocks) w l) x 0)) p (q ∙ ap (λ (w : Edge). locationIn s (w .target)) p)
+      ∙ sym (ap answered (edge-alone-number firstLayout s x e h k))
+
+  pub delay-there : (code c : ℕ) → code ≡ c → 31 < c → (l : Location) → l ≡ locationIn s (bitsOf x 4 20)
+      → answered (stepBy firstLayout (alone (s .clocks) blankEdge l) x c) ≡ answered (stepBy firstLayout (decodedMeaning s) x code)
+  unfolding nodeOf
+  delay-there code c p h l q = ap (λ (l : Location). answered (stepBy firstLayout (alone (s .clocks) blankEdge l) x c)) q
+      ∙ sym (ap answered (delay-alone-number firstLayout s x blankEdge c h)) ∙ ap (λ (m : ℕ). answered (stepBy firstLayout (decodedMeaning s) x m)) (sym p)
 
   -- ---- a whole step
 

@@ -8,9 +8,10 @@ ghost use Rattle.automaton.specs.Ranks.{largest};
 ghost use Rattle.automaton.specs.Nodes.{usesEachRank};
 ghost use Rattle.nodes.specs.Numbers.{firstLayout, bitsOf, isNumber, stepBy};
 ghost use Rattle.nodes.specs.Decoded.{decodedMeaning, locationIn};
-ghost use Rattle.sheet.specs.Decoded.{blankLocation};
+ghost use Rattle.sheet.specs.Decoded.{blankEdge, blankLocation};
 ghost use Rattle.region.specs.Step.{answered};
 use crate::Stepped;
+use sheet::Edge;
 use sheet::Location;
 use sheet::Sheet;
 
@@ -64,6 +65,14 @@ pub fn is_number(sheet: Sheet, number: u32) -> bool
     crate::bounds::inside(region, upper, k)
 }
 
+// The record of an edge.
+fn edge_of(all: [Edge; 32], e: usize) -> Edge
+    requires { ⌜ e ≤ 31 ⌝ }
+    ensures { λ r. ⌜ r ≡ getD all e blankEdge ⌝ }
+{
+    all[e]
+}
+
 // The edge of a code, where the sheet has one.
 fn edge_from(sheet: Sheet, number: u32, e: usize) -> Stepped
     requires { ⌜ e ≤ 31 ⌝ }
@@ -72,13 +81,11 @@ fn edge_from(sheet: Sheet, number: u32, e: usize) -> Stepped
     if (sheet.edges as usize) <= e {
         return crate::refused(16);
     }
-    let edge = sheet.edge[e];
-    crate::edges::edge_step(
-        number,
-        sheet.clocks,
-        edge,
-        location_of(sheet.location, edge.target),
-    )
+    let edges = sheet.edge;
+    let edge = edge_of(edges, e);
+    let locations = sheet.location;
+    let target = location_of(locations, edge.target);
+    crate::edges::edge_step(number, sheet.clocks, edge, target)
 }
 
 // The record of a node's location.

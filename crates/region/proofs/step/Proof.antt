@@ -1,5 +1,5 @@
 -- What was read steps as its bytes do.
-use mathlib.Core.Path.{_≡_, sym, ap, ap₂, _∙_}
+use mathlib.Core.Path.{ap, _∙_}
 use Rattle.sheet.specs.declared.Sheet.{Sheet}
 use Rattle.region.specs.Step.{stepIn}
 use Rattle.region.proofs.SheetLaws.{read-steps}

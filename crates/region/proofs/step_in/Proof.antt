@@ -1,5 +1,5 @@
 -- The sheet's refusal, question 15, question 16.
-use mathlib.Core.Path.{_≡_, sym, ap, ap₂, _∙_}
+use mathlib.Core.Path.{sym, _∙_}
 use borrow.Author.Tests.{not-true, not-false}
 use Rattle.region.proofs.SheetLaws.{step-refused, step-nowhere, step-answered}
 use borrow.Author.Needs.{needs}

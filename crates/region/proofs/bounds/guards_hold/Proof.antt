@@ -1,15 +1,15 @@
 -- The guards of the clocks passed hold.
 use borrow.Author.Tests.{not-true, not-false}
 use lib.ListN.{length, getD, take}
-use mathlib.Core.Path.{_≡_, refl, sym, ap, _∙_}
+use mathlib.Core.Path.{_≡_, sym, ap, _∙_}
 use mathlib.Core.Bool.{true}
 use mathlib.Core.List.{zipWith}
-use Prim.Native.Nat.{ℕ, _-_, _≤_}
+use Prim.Native.Nat.{_-_, _≤_}
 use native.Mathlib.Omega.{arith}
 use borrow.Author.Needs.{needs}
 use Rattle.automaton.specs.Tests.{every}
-use Rattle.automaton.specs.Bounds.{interval, upperHolds}
-use Rattle.region.specs.Arrays.{boundsIn, guardHolds, guardsIn}
+use Rattle.automaton.specs.Bounds.{interval}
+use Rattle.region.specs.Arrays.{guardHolds, guardsIn}
 use Rattle.region.proofs.ClockLaws.{every-none, every-more, every-fails, every-all, zip-at, zip-long}
 use Rattle.region.proofs.bounds.guards_hold.Statement.{statement}
 use Rattle.region.proofs.bounds.guards_hold.Tie as tie
@@ -43,7 +43,7 @@ guard-holds-requires c κs = search needs
 
 returns : tie.Need-returns Inv-loop μ-loop
 unfolding guardsIn
-returns c = 
+returns c =
     let w : length (c .before .before .before .before .before .before .before .args .t1 .whole) ≡ 3 = search needs in
     let k : length (c .before .before .before .before .before .before .before .args .t1 .class) ≡ 3 = search needs in
     let here = zip-at interval (c .before .before .before .before .before .before .before .args .t1 .whole) (c .before .before .before .before .before .before .before .args .t1 .class) (c .before .before .before .before .before .before .loop .j) (omega arith) (omega arith) in
@@ -58,13 +58,15 @@ loop-less : tie.Need-loop-less Inv-loop μ-loop
 loop-less c = search needs
 
 loop-again : tie.Need-loop-again Inv-loop μ-loop
-loop-again c = 
+loop-again c =
     let w : length (c .before .before .before .before .before .before .before .args .t1 .whole) ≡ 3 = search needs in
     let k : length (c .before .before .before .before .before .before .before .args .t1 .class) ≡ 3 = search needs in
     let here = zip-at interval (c .before .before .before .before .before .before .before .args .t1 .whole) (c .before .before .before .before .before .before .before .args .t1 .class) (c .before .before .before .before .before .before .loop .j) (omega arith) (omega arith) in
-    let long = zip-long interval (c .before .before .before .before .before .before .before .args .t1 .whole) (c .before .before .before .before .before .before .before .args .t1 .class) 3 w k in
-    (search needs, every-more (λ i x. guardHolds (getD (c .before .before .before .before .before .before .before .args .t2) i 0) (getD (c .before .before .before .before .before .before .before .args .t3) i 0) x) (zipWith interval (c .before .before .before .before .before .before .before .args .t1 .whole) (c .before .before .before .before .before .before .before .args .t1 .class)) (c .before .before .before .before .before .before .loop .j) (omega arith) (c .before .before .before .before .before .before .loop .inv .1)
-    (ap (guardHolds (getD (c .before .before .before .before .before .before .before .args .t2) (c .before .before .before .before .before .before .loop .j) 0) (getD (c .before .before .before .before .before .before .before .args .t3) (c .before .before .before .before .before .before .loop .j) 0)) (here ∙ sym (c .before .before .interval-of .ensures)) ∙ sym (c .before .guard-holds .ensures) ∙ not-false (c .before .guard-holds .result) (c .if1 .left)))
+    let long = zip-long interval (c .before .before .before .before .before .before .before .args .t1 .whole) (c .before .before .before .before .before .before .before .args .t1 .class) 3 w k in (
+      search needs,
+      every-more (λ i x. guardHolds (getD (c .before .before .before .before .before .before .before .args .t2) i 0) (getD (c .before .before .before .before .before .before .before .args .t3) i 0) x) (zipWith interval (c .before .before .before .before .before .before .before .args .t1 .whole) (c .before .before .before .before .before .before .before .args .t1 .class)) (c .before .before .before .before .before .before .loop .j) (omega arith) (c .before .before .before .before .before .before .loop .inv .1)
+          (ap (guardHolds (getD (c .before .before .before .before .before .before .before .args .t2) (c .before .before .before .before .before .before .loop .j) 0) (getD (c .before .before .before .before .before .before .before .args .t3) (c .before .before .before .before .before .before .loop .j) 0)) (here ∙ sym (c .before .before .interval-of .ensures)) ∙ sym (c .before .guard-holds .ensures) ∙ not-false (c .before .guard-holds .result) (c .if1 .left)),
+    )
 
 returns-2 : tie.Need-returns-2 Inv-loop μ-loop
 unfolding guardsIn

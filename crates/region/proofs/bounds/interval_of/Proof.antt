@@ -1,7 +1,6 @@
 -- Twice the whole part, and one more above it.
 use native.Mathlib.Numerals.{add-one}
 use borrow.Author.Tests.{eq-eqb, ne-eqb}
-use native.Mathlib.Omega.{arith}
 use borrow.Author.Needs.{needs}
 use Rattle.region.proofs.bounds.interval_of.Statement.{statement}
 use Rattle.region.proofs.bounds.interval_of.Tie as tie

@@ -53,7 +53,7 @@ carry-class-requires-3 : tie.Need-carry-class-requires-3
 carry-class-requires-3 c κs = search needs
 
 returns : tie.Need-returns
-returns c = 
+returns c =
     let hs = c .before .before .before .before .before .before .before .before .before .before .before .before .before .before .before .before .args .node .region .whole in
     let ks = c .before .before .before .before .before .before .before .before .before .before .before .before .before .before .before .before .args .node .region .class in
     let h : length hs ≡ 3 = search needs in

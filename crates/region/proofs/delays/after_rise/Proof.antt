@@ -29,13 +29,13 @@ add-t7 c = search needs
 
 returns : tie.Need-returns
 returns c = λ i. record {
-      location = c .before .before .before .before .before .before .before .before .before .args .node .location;
-      region = record {
-        whole = c .before .before .before .before .before .before .before .before .before .args .node .region .whole;
-        class = ap₂ _∷_ (c .before .before .before .before .before .risen-class .ensures) (ap₂ _∷_ (c .before .before .before .risen-class2 .ensures) (ap₂ _∷_ (c .before .risen-class3 .ensures) refl)) i;
-      };
-      corner = add-one (c .before .before .before .before .before .before .before .before .before .args .node .corner) i;
-    }
+  location = c .before .before .before .before .before .before .before .before .before .args .node .location;
+  region = record {
+    whole = c .before .before .before .before .before .before .before .before .before .args .node .region .whole;
+    class = ap₂ _∷_ (c .before .before .before .before .before .risen-class .ensures) (ap₂ _∷_ (c .before .before .before .risen-class2 .ensures) (ap₂ _∷_ (c .before .risen-class3 .ensures) refl)) i;
+  };
+  corner = add-one (c .before .before .before .before .before .before .before .before .before .args .node .corner) i;
+}
 
 pub after-rise-spec : {M : Type 1} → statement M
 after-rise-spec =

@@ -1,5 +1,5 @@
 -- By whether the node lies within the bounds.
-use mathlib.Core.Path.{_≡_, sym, ap, ap₂, _∙_}
+use mathlib.Core.Path.{sym, _∙_}
 use borrow.Author.Tests.{not-true, not-false}
 use Rattle.region.proofs.DelayLaws.{free-yes, free-no}
 use borrow.Author.Needs.{needs}

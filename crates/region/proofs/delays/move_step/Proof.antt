@@ -1,5 +1,5 @@
 -- By whether some clock has class 0.
-use mathlib.Core.Path.{_≡_, sym, ap, ap₂, _∙_}
+use mathlib.Core.Path.{sym, _∙_}
 use Rattle.region.proofs.NodeLaws.{corner-of, class-of, whole-of}
 use Rattle.region.proofs.DelayLaws.{risen, carried, stays}
 use borrow.Author.Needs.{needs}

@@ -1,5 +1,5 @@
 -- The masked region, closed up.
-use mathlib.Core.Path.{_≡_, sym, ap, _∙_, subst}
+use mathlib.Core.Path.{sym, ap, _∙_, subst}
 use Prim.Native.Nat.{_<_}
 use lib.ListN.{getD}
 use Rattle.automaton.specs.Ranks.{rank, closeUp}
@@ -20,7 +20,7 @@ rank-of-requires : tie.Need-rank-of-requires
 rank-of-requires c κs = search needs
 
 returns : tie.Need-returns
-returns c = 
+returns c =
     let m = c .before .before .before .before .masked .ensures in λ i. record {
       location = c .before .before .before .before .before .args .target;
       region = record { whole = m i .whole; class = (c .before .close-up .ensures ∙ ap (λ (r : Region). closeUp (r .class)) m) i };

@@ -1,6 +1,5 @@
 -- The larger of two, twice.
 use Rattle.region.proofs.ArrayLaws.{largest-three}
-use native.Mathlib.Omega.{arith}
 use Rattle.automaton.specs.Ranks.{largest}
 use borrow.Author.Needs.{needs}
 use Rattle.region.proofs.ranks.largest_of.Statement.{statement}

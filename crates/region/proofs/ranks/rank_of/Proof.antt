@@ -35,14 +35,19 @@ loop-less : tie.Need-loop-less Inv-loop μ-loop
 loop-less c = search needs
 
 loop-again : tie.Need-loop-again Inv-loop μ-loop
-loop-again c = 
+loop-again c =
     let l = c .before .before .before .loop in
     let a = c .before .before .before .before .args in
-    let o = c .before .occurs-in in
-    (search needs, (⊎-elim (λ w. omega arith) (λ w. omega arith) (c .if1 .came), ⊎-elim
-    (λ w. w .1 ∙ rank-counts (a .class) (search needs) (l .v) (l .n) (l .inv .1 .1) (sym (o .ensures) ∙ w .0 .taken))
-    (λ w. w .1 ∙ rank-passes (a .class) (search needs) (l .v) (l .n) (l .inv .1 .1) (sym (o .ensures) ∙ w .0 .left))
-    (c .if1 .came)))
+    let o = c .before .occurs-in in (
+      search needs,
+      (
+        ⊎-elim (λ w. omega arith) (λ w. omega arith) (c .if1 .came),
+        ⊎-elim
+            (λ w. w .1 ∙ rank-counts (a .class) (search needs) (l .v) (l .n) (l .inv .1 .1) (sym (o .ensures) ∙ w .0 .taken))
+            (λ w. w .1 ∙ rank-passes (a .class) (search needs) (l .v) (l .n) (l .inv .1 .1) (sym (o .ensures) ∙ w .0 .left))
+            (c .if1 .came),
+      ),
+    )
 
 returns : tie.Need-returns Inv-loop μ-loop
 returns c = c .before .loop .inv .1 .1 ∙ ap (rank (c .before .before .args .class)) (omega arith)

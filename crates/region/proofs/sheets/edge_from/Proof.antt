@@ -1,6 +1,6 @@
 -- An edge that is there, by its records.
-use mathlib.Core.Path.{_≡_, sym, ap, ap₂, _∙_}
-use Rattle.region.proofs.SheetLaws.{no-edge}
+use mathlib.Core.Path.{_∙_}
+use Rattle.region.proofs.SheetLaws.{no-edge, edge-there}
 use borrow.Author.Needs.{needs}
 use Rattle.region.proofs.sheets.edge_from.Statement.{statement}
 use Rattle.region.proofs.sheets.edge_from.Tie as tie
@@ -12,13 +12,10 @@ refused-requires : tie.Need-refused-requires
 refused-requires c κs = search needs
 
 returns : tie.Need-returns
-returns c = c .refused .ensures ∙ no-edge (c .before .before .args .t1) (c .before .before .args .number) (c .before .before .args .e) (c .before .before .pre) (c .before .if1 .taken)
+returns c = c .refused .ensures ∙ no-edge (c .before .before .before .args .sheet) (c .before .before .before .args .number) (c .before .before .before .args .e) (c .before .before .before .pre) (c .before .if1 .taken)
 
-mul-edge : tie.Need-mul-edge
-mul-edge c = search needs
-
-element-copy-out-edge : tie.Need-element-copy-out-edge
-element-copy-out-edge c = search needs
+edge-of-requires : tie.Need-edge-of-requires
+edge-of-requires c κs = search needs
 
 location-of-requires : tie.Need-location-of-requires
 location-of-requires c κs = search needs
@@ -27,7 +24,7 @@ edge-step-requires : tie.Need-edge-step-requires
 edge-step-requires c κs = search needs
 
 returns-2 : tie.Need-returns-2
-returns-2 c = ?
+returns-2 c = c .edge-step .ensures ∙ edge-there (c .before .before .before .before .before .before .before .args .sheet) (c .before .before .before .before .before .before .before .args .number) (c .before .before .before .before .before .before .before .args .e) (c .before .before .before .before .before .before .before .pre) (c .before .before .before .before .before .if1 .left) (c .before .before .before .edge-of .result) (c .before .before .before .edge-of .ensures) (c .before .location-of .result) (c .before .location-of .ensures)
 
 pub edge-from-spec : {M : Type 1} → statement M
 edge-from-spec =
@@ -36,8 +33,7 @@ edge-from-spec =
     cast-if1
     refused-requires
     returns
-    mul-edge
-    element-copy-out-edge
+    edge-of-requires
     location-of-requires
     edge-step-requires
     returns-2)

@@ -1,5 +1,5 @@
 -- The parts of question 15, in turn.
-use mathlib.Core.Path.{_≡_, sym, ap, ap₂, _∙_}
+use mathlib.Core.Path.{sym, _∙_}
 use borrow.Author.Tests.{not-true, not-false}
 use Rattle.region.proofs.NodeLaws.{class-of}
 use Rattle.region.proofs.SheetLaws.{other-number, not-there, no-corner, there}

@@ -1,5 +1,5 @@
 -- The location by its bits.
-use mathlib.Core.Path.{_≡_, sym, ap, ap₂, _∙_}
+use mathlib.Core.Path.{ap, _∙_}
 use Rattle.nodes.specs.Decoded.{locationIn}
 use borrow.Author.Needs.{needs}
 use Rattle.region.proofs.sheets.location_at.Statement.{statement}

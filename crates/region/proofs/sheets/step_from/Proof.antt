@@ -1,5 +1,7 @@
 -- By the code.
-use mathlib.Core.Path.{_≡_, sym, ap, ap₂, _∙_}
+use mathlib.Core.Path.{_∙_}
+use native.Mathlib.Omega.{arith}
+use Rattle.region.proofs.SheetLaws.{no-code, delay-there}
 use borrow.Author.Needs.{needs}
 use Rattle.region.proofs.sheets.step_from.Statement.{statement}
 use Rattle.region.proofs.sheets.step_from.Tie as tie
@@ -23,16 +25,16 @@ refused-requires : tie.Need-refused-requires
 refused-requires c κs = search needs
 
 returns : tie.Need-returns
-returns c = ?
+returns c = c .unit-step .ensures ∙ delay-there (c .before .before .before .args .sheet) (c .before .before .before .args .number) (c .before .before .before .args .code) 32 (c .before .before .match .keys1) (omega arith) (c .before .location-at .result) (c .before .location-at .ensures)
 
 returns-2 : tie.Need-returns-2
-returns-2 c = ?
+returns-2 c = c .move-step .ensures ∙ delay-there (c .before .before .before .args .sheet) (c .before .before .before .args .number) (c .before .before .before .args .code) 33 (c .before .before .match .keys2) (omega arith) (c .before .location-at2 .result) (c .before .location-at2 .ensures)
 
 returns-3 : tie.Need-returns-3
 returns-3 c = search needs
 
 returns-4 : tie.Need-returns-4
-returns-4 c = ?
+returns-4 c = c .refused .ensures ∙ no-code (c .before .before .before .args .sheet) (c .before .before .before .args .number) (c .before .before .before .args .code) (omega arith) (c .before .before .match .rest .0 .1) (c .before .before .match .rest .1)
 
 pub step-from-spec : {M : Type 1} → statement M
 step-from-spec =
