@@ -53,11 +53,11 @@ decodedMeaning s = record {
   reward = λ e. edgeIn s e .reward;
 }
 
--- So many clocks, one edge, by the code 0, and one location's record for all locations. A step needs no more of a sheet: an edge needs its own
--- record and its target's, a delay its location's.
+-- So many clocks, one edge, by the code 0, and one location's record for each location that four bits can tell. A step needs no more of a sheet:
+-- an edge needs its own record and its target's, a delay its location's.
 unfoldable pub alone : ℕ → Edge → Location → Automaton
 alone k e l = record {
-  locations = 1;
+  locations = 16;
   clocks = fewClocks k;
   edges = 1;
   bound = λ i. boundIn l;

@@ -20,7 +20,7 @@ use Rattle.sheet.specs.declared.Location.{Location}
 use Rattle.nodes.specs.Numbers.{firstLayout, number, nodeOf, stepBy}
 use Rattle.nodes.specs.Decoded.{fewClocks, alone}
 use Rattle.nodes.proofs.Carried.{named}
-use Rattle.region.specs.Step.{refused, answered}
+use Rattle.region.specs.Answers.{refused, answered}
 use Rattle.region.specs.Arrays.{inArrays, fromArrays, boundsIn, afterRise, afterCarry}
 use Rattle.region.specs.declared.Node.{Node}
 use Rattle.region.specs.declared.Stepped.{Stepped}

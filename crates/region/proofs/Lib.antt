@@ -5,4 +5,4 @@ pub mod ArrayLaws
 pub mod NodeLaws
 pub mod EdgeLaws
 pub mod DelayLaws
-pub mod SheetLaws
+pub mod QuestionLaws

@@ -8,7 +8,7 @@ ghost use Rattle.automaton.specs.Steps.{carryWhole, carryClass};
 ghost use Rattle.nodes.specs.Numbers.{firstLayout, number, stepBy};
 ghost use Rattle.nodes.specs.Decoded.{alone};
 ghost use Rattle.sheet.specs.Decoded.{blankEdge};
-ghost use Rattle.region.specs.Step.{answered};
+ghost use Rattle.region.specs.Answers.{answered};
 ghost use Rattle.region.specs.Arrays.{fromArrays, boundsIn, risenClass, afterRise, afterCarry};
 use crate::Node;
 use crate::Region;

@@ -6,7 +6,7 @@ ghost use lib.ListN.{getD};
 ghost use Rattle.nodes.specs.Numbers.{firstLayout, stepBy};
 ghost use Rattle.nodes.specs.Decoded.{alone};
 ghost use Rattle.sheet.specs.Maps.{stands};
-ghost use Rattle.region.specs.Step.{answered};
+ghost use Rattle.region.specs.Answers.{answered};
 ghost use Rattle.region.specs.Arrays.{maskedRegion, afterEdge};
 use crate::Node;
 use crate::Region;

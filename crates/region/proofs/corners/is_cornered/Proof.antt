@@ -2,9 +2,9 @@
 use borrow.Author.Needs.{needs}
 use native.Mathlib.Omega.{arith}
 use Rattle.region.proofs.ArrayLaws.{largest-below}
-use Rattle.region.proofs.SheetLaws.{unused-rank, used-ranks}
-use Rattle.region.proofs.sheets.is_cornered.Statement.{statement}
-use Rattle.region.proofs.sheets.is_cornered.Tie as tie
+use Rattle.region.proofs.QuestionLaws.{unused-rank, used-ranks}
+use Rattle.region.proofs.corners.is_cornered.Statement.{statement}
+use Rattle.region.proofs.corners.is_cornered.Tie as tie
 
 largest-of-requires : tie.Need-largest-of-requires
 largest-of-requires c κs = search needs

@@ -1,9 +1,9 @@
 -- An edge that is there, by its records.
 use mathlib.Core.Path.{_∙_}
-use Rattle.region.proofs.SheetLaws.{no-edge, edge-there}
+use Rattle.step.proofs.SheetLaws.{no-edge, edge-there}
 use borrow.Author.Needs.{needs}
-use Rattle.region.proofs.sheets.edge_from.Statement.{statement}
-use Rattle.region.proofs.sheets.edge_from.Tie as tie
+use Rattle.step.proofs.edge_from.Statement.{statement}
+use Rattle.step.proofs.edge_from.Tie as tie
 
 cast-if1 : tie.Need-cast-if1
 cast-if1 c = search needs

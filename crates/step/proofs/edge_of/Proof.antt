@@ -4,9 +4,9 @@ use borrow.Author.Needs.{needs}
 use native.Mathlib.Omega.{arith}
 use lib.ListN.{length}
 use Rattle.sheet.specs.Decoded.{blankEdge}
-use Rattle.region.proofs.SheetLaws.{any-default}
-use Rattle.region.proofs.sheets.edge_of.Statement.{statement}
-use Rattle.region.proofs.sheets.edge_of.Tie as tie
+use Rattle.step.proofs.SheetLaws.{any-default}
+use Rattle.step.proofs.edge_of.Statement.{statement}
+use Rattle.step.proofs.edge_of.Tie as tie
 
 mul-result : tie.Need-mul-result
 mul-result c = search needs

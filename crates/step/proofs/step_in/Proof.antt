@@ -1,10 +1,10 @@
 -- The sheet's refusal, question 15, question 16.
 use mathlib.Core.Path.{sym, _∙_}
 use borrow.Author.Tests.{not-true, not-false}
-use Rattle.region.proofs.SheetLaws.{step-refused, step-nowhere, step-answered}
+use Rattle.step.proofs.SheetLaws.{step-refused, step-nowhere, step-answered}
 use borrow.Author.Needs.{needs}
-use Rattle.region.proofs.step_in.Statement.{statement}
-use Rattle.region.proofs.step_in.Tie as tie
+use Rattle.step.proofs.step_in.Statement.{statement}
+use Rattle.step.proofs.step_in.Tie as tie
 
 refused-requires : tie.Need-refused-requires
 refused-requires c κs = search needs

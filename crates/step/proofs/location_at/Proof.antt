@@ -2,8 +2,8 @@
 use mathlib.Core.Path.{ap, _∙_}
 use Rattle.nodes.specs.Decoded.{locationIn}
 use borrow.Author.Needs.{needs}
-use Rattle.region.proofs.sheets.location_at.Statement.{statement}
-use Rattle.region.proofs.sheets.location_at.Tie as tie
+use Rattle.step.proofs.location_at.Statement.{statement}
+use Rattle.step.proofs.location_at.Tie as tie
 
 bits-requires : tie.Need-bits-requires
 bits-requires c κs = search needs

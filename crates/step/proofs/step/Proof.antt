@@ -1,11 +1,11 @@
 -- What was read steps as its bytes do.
 use mathlib.Core.Path.{ap, _∙_}
 use Rattle.sheet.specs.declared.Sheet.{Sheet}
-use Rattle.region.specs.Step.{stepIn}
-use Rattle.region.proofs.SheetLaws.{read-steps}
+use Rattle.step.specs.Step.{stepIn}
+use Rattle.step.proofs.SheetLaws.{read-steps}
 use borrow.Author.Needs.{needs}
-use Rattle.region.proofs.step.Statement.{statement}
-use Rattle.region.proofs.step.Tie as tie
+use Rattle.step.proofs.step.Statement.{statement}
+use Rattle.step.proofs.step.Tie as tie
 
 read-requires : tie.Need-read-requires
 read-requires c κs = search needs

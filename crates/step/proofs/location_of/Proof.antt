@@ -4,9 +4,9 @@ use borrow.Author.Needs.{needs}
 use native.Mathlib.Omega.{arith}
 use lib.ListN.{length, List·getD-eq-default}
 use Rattle.sheet.specs.Decoded.{blankLocation}
-use Rattle.region.proofs.SheetLaws.{any-default}
-use Rattle.region.proofs.sheets.location_of.Statement.{statement}
-use Rattle.region.proofs.sheets.location_of.Tie as tie
+use Rattle.step.proofs.SheetLaws.{any-default}
+use Rattle.step.proofs.location_of.Statement.{statement}
+use Rattle.step.proofs.location_of.Tie as tie
 
 mul-result : tie.Need-mul-result
 mul-result c = search needs

@@ -1,10 +1,10 @@
 -- By the code.
 use mathlib.Core.Path.{_∙_}
 use native.Mathlib.Omega.{arith}
-use Rattle.region.proofs.SheetLaws.{no-code, delay-there}
+use Rattle.step.proofs.SheetLaws.{no-code, delay-there}
 use borrow.Author.Needs.{needs}
-use Rattle.region.proofs.sheets.step_from.Statement.{statement}
-use Rattle.region.proofs.sheets.step_from.Tie as tie
+use Rattle.step.proofs.step_from.Statement.{statement}
+use Rattle.step.proofs.step_from.Tie as tie
 
 location-at-requires : tie.Need-location-at-requires
 location-at-requires c κs = search needs
