@@ -9,24 +9,13 @@ use native.Mathlib.Nat.{le-of-suc-le-suc, not-suc-le-zero}
 use lib.ListN.{length, length-append, List·getD-append}
 use lib.Seq.{getD-append-add}
 use Rattle.walks.specs.Walk.{at, Walk, Distinct}
+pub use Rattle.walks.specs.Lasso.{Lasso, Rising}
 use Rattle.walks.proofs.Walks.{walk-append}
-
-pub record Lasso (F T : List ℕ) (m : ℕ) (s c : List ℕ) : Type 0 where
-  pub hub : ℕ
-  pub stem : Walk F T m 0 s hub
-  pub some : 0 < length c
-  pub cycle : Walk F T m hub c hub
-  pub simple : Distinct F (s ++ c)
-
--- each arc leads to a later node
-abbrev pub Rising : List ℕ → List ℕ → List ℕ → Type 0
-Rising F T [] = Unit {0}
-Rising F T (e ∷ s) = (at F e < at T e) × Rising F T s
 
 -- ---- lists of arcs that leave distinct nodes
 
 -- an index into a join
-join-at : (c d : List ℕ) (i : ℕ) → i < length (c ++ d)
+pub join-at : (c d : List ℕ) (i : ℕ) → i < length (c ++ d)
     → ((i < length c) × (at (c ++ d) i ≡ at c i)) ⊎ ((length c ≤ i) × (i - length c < length d) × (at (c ++ d) i ≡ at d (i - length c)))
 join-at c d i h = let l : length (c ++ d) ≡ length c + length d = length-append c d in elim (decLt i (length c)) [
   | yes k ↦ inl (k, List·getD-append c d 0 i k)

@@ -6,21 +6,7 @@ use native.Mathlib.Omega.{arith}
 use lib.ListN.{length, take, drop, take-append-drop, set, length-set}
 use lib.Seq.{take-take, drop-drop, take-nil, slice, slice-empty, slice-cons, getD-set-same, take-set-lt, drop-set-lt}
 use Rattle.walks.specs.Walk.{at, Walk}
-use Rattle.walks.proofs.Lassos.{Rising}
-
--- the tree arc of each node but 0 comes from an earlier node, whatever the graph's other parts are
-pub record Tree (F tree : List ℕ) (n : ℕ) : Type 0 where
-  pub T : List ℕ
-  pub m : ℕ
-  pub froms : length F ≡ m
-  pub arc : (v : ℕ) → v < n → 0 < v → at tree v < m
-  pub ends : (v : ℕ) → v < n → 0 < v → at T (at tree v) ≡ v
-  pub earlier : (v : ℕ) → v < n → 0 < v → at F (at tree v) < v
-
--- the arcs of l lead from x to h, each to a later node
-pub record Stem (F T : List ℕ) (m x : ℕ) (l : List ℕ) (h : ℕ) : Type 0 where
-  pub walk : Walk F T m x l h
-  pub rising : Rising F T l
+pub use Rattle.walks.specs.Lasso.{Tree, Stem}
 
 pub stem-none : (F T : List ℕ) (m h : ℕ) (l : List ℕ) → Stem F T m h (slice (length l) (length l) l) h
 stem-none F T m h l = rw (slice-empty (length l) l) record { walk = refl; rising = tt }
@@ -50,7 +36,8 @@ stem-more F tree n x a h l g hn hx ha s =
 add′ : (a n : ℕ) → suc a + n ≡ suc (a + n)
 add′ a n = omega arith
 
-take-part : (a n b : ℕ) (l : List ℕ) → a + n ≤ b → take n (drop a (take b l)) ≡ slice a (a + n) l
+-- the first n entries from a on
+pub take-part : (a n b : ℕ) (l : List ℕ) → a + n ≤ b → take n (drop a (take b l)) ≡ slice a (a + n) l
 take-part zero n b l h = let e : n ≡ 0 + n = omega arith in take-take n b l (omega arith) ∙ ap (λ (i : ℕ). take i l) e
 take-part (suc a) n zero l h = absurd (omega arith)
 take-part (suc a) n (suc b) [] h = take-nil n ∙ rw (add′ a n) refl

@@ -1,3 +1,4 @@
 pub mod Walk
 pub mod Weight
 pub mod Form
+pub mod Lasso

@@ -1,0 +1,117 @@
+-- The stem, and then the two parts of the cycle.
+use mathlib.Core.Path.{refl, subst}
+use Prim.Native.Nat.{ℕ, _-_}
+use lib.ListN.{length}
+use lib.Seq.{slice}
+use Rattle.walks.specs.Lasso.{Stem}
+use Rattle.lasso.proofs.Laying.{tree-of, laid-out}
+use borrow.Author.Needs.{needs}
+use native.Mathlib.Omega.{arith}
+use denote.Ref.{now}
+use Rattle.lasso.proofs.lay.lay_out.Statement.{statement}
+use Rattle.lasso.proofs.lay.lay_out.Tie as tie
+
+first-requires : tie.Need-first-requires
+first-requires c κs = (c .before .before .before .before .before .pre .some, (c .before .before .before .before .before .pre .cycle-room, λ i h. c .before .before .before .before .before .pre .cycle-arcs i h .arc))
+
+slice-aggregate-stem : tie.Need-slice-aggregate-stem
+slice-aggregate-stem c = search needs
+
+mul-node : tie.Need-mul-node
+mul-node c = search needs
+
+shared-slice-read-node : tie.Need-shared-slice-read-node
+shared-slice-read-node c = omega (arith, c .before .before .first .ensures .0, c .before .before .before .before .before .before .before .before .pre .cycle-room)
+
+node-requires : tie.Need-node-requires
+node-requires c κs = c .before .before .before .before .before .before .before .before .pre .cycle-arcs (c .before .before .first .result) (c .before .before .first .ensures .0) .arc
+
+stem-requires : tie.Need-stem-requires
+stem-requires c κs = (tree-of (now (c .before .before .before .before .before .before .before .before .before .args .from)) (now (c .before .before .before .before .before .before .before .before .before .args .to)) (now (c .before .before .before .before .before .before .before .before .before .args .tree)) (now (c .before .before .before .before .before .before .before .before .before .args .cycle)) _ _ _ (c .before .before .before .before .before .before .before .before .before .pre), (rw (c .node .ensures) (c .before .before .before .before .before .before .before .before .before .pre .cycle-arcs (c .before .before .before .first .result) (c .before .before .before .first .ensures .0) .source), (c .before .before .before .before .before .before .before .before .before .pre .tree-room, omega (arith, c .before .before .before .before .before .before .before .before .before .pre .few))))
+
+sub-s : tie.Need-sub-s
+sub-s c = search needs
+
+mul-copy : tie.Need-mul-copy
+mul-copy c = search needs
+
+sub-copy : tie.Need-sub-copy
+sub-copy c = search needs
+
+part-copy-start : tie.Need-part-copy-start
+part-copy-start c = search needs
+
+part-copy-end : tie.Need-part-copy-end
+part-copy-end c = search needs
+
+copy-requires : tie.Need-copy-requires
+copy-requires c κs = search needs
+
+mul-copy-2 : tie.Need-mul-copy-2
+mul-copy-2 c = search needs
+
+sub-copy-2 : tie.Need-sub-copy-2
+sub-copy-2 c = search needs
+
+part-copy-start-2 : tie.Need-part-copy-start-2
+part-copy-start-2 c = search needs
+
+part-copy-end-2 : tie.Need-part-copy-end-2
+part-copy-end-2 c = search needs
+
+sub-copy-3 : tie.Need-sub-copy-3
+sub-copy-3 c = search needs
+
+copy-requires-2 : tie.Need-copy-requires-2
+copy-requires-2 c κs = search needs
+
+sub-copy-4 : tie.Need-sub-copy-4
+sub-copy-4 c = search needs
+
+add-copy : tie.Need-add-copy
+add-copy c = search needs
+
+copy-requires-3 : tie.Need-copy-requires-3
+copy-requires-3 c κs = search needs
+
+same-length : tie.Need-same-length
+same-length c = search needs
+
+returns : tie.Need-returns
+returns c =
+    let s = c .before .before .before .before .before .before .before .before .before .before .before .before .before .before .before .before .before .before .before .before .before .before .before .before .before .before in
+    let f = c .before .before .before .before .before .before .before .before .before .before .before .before .before .before .before .before .before .before .before .before .first in
+    let t = c .before .before .before .before .before .before .before .before .before .before .before .before .before .before .before .before .stem in
+    laid-out (now (c .before .before .before .before .before .before .before .before .before .before .before .before .before .before .before .before .before .before .before .before .before .before .before .before .before .before .args .from)) (now (c .before .before .before .before .before .before .before .before .before .before .before .before .before .before .before .before .before .before .before .before .before .before .before .before .before .before .args .to)) (now (c .before .before .before .before .before .before .before .before .before .before .before .before .before .before .before .before .before .before .before .before .before .before .before .before .before .before .args .cycle)) (t .last .1 .1 .1 .0) (now (s .args .arcs)) (c .before .before .before .before .before .before .before .before .before .before .before .copy .last .1 .1 .0) (c .before .before .before .before .before .before .copy2 .last .1 .1 .0) (c .before .before .copy3 .last .1 .1 .0)
+    (s .args .nodes) (s .args .k) (t .result) (f .result) (2048 - t .result) (t .kept .1 .1 .1 .0) (t .ensures .0) (omega (arith, t .ensures .1 .0)) refl
+    (f .ensures .0) (s .pre .cycle-room) (s .pre .arcs-room) (f .ensures .1)
+    (subst (λ (h : ℕ). Stem (now (c .before .before .before .before .before .before .before .before .before .before .before .before .before .before .before .before .before .before .before .before .before .before .before .before .before .before .args .from)) (now (c .before .before .before .before .before .before .before .before .before .before .before .before .before .before .before .before .before .before .before .before .before .before .before .before .before .before .args .to)) (length (now (c .before .before .before .before .before .before .before .before .before .before .before .before .before .before .before .before .before .before .before .before .before .before .before .before .before .before .args .from))) 0 (slice (t .result) (length (t .last .1 .1 .1 .0)) (t .last .1 .1 .1 .0)) h) (c .before .before .before .before .before .before .before .before .before .before .before .before .before .before .before .before .before .node .ensures) (t .ensures .1 .1 (tree-of (now (c .before .before .before .before .before .before .before .before .before .before .before .before .before .before .before .before .before .before .before .before .before .before .before .before .before .before .args .from)) (now (c .before .before .before .before .before .before .before .before .before .before .before .before .before .before .before .before .before .before .before .before .before .before .before .before .before .before .args .to)) (now (c .before .before .before .before .before .before .before .before .before .before .before .before .before .before .before .before .before .before .before .before .before .before .before .before .before .before .args .tree)) (now (c .before .before .before .before .before .before .before .before .before .before .before .before .before .before .before .before .before .before .before .before .before .before .before .before .before .before .args .cycle)) _ _ _ (s .pre))))
+    (c .before .before .before .before .before .before .before .before .before .before .before .copy .ensures) (c .before .before .before .before .before .before .copy2 .ensures) (c .before .before .copy3 .ensures)
+
+pub lay-out-spec : {M : Type 1} → statement M
+lay-out-spec =
+    tie.close
+    (tie.spec
+    first-requires
+    slice-aggregate-stem
+    mul-node
+    shared-slice-read-node
+    node-requires
+    stem-requires
+    sub-s
+    mul-copy
+    sub-copy
+    part-copy-start
+    part-copy-end
+    copy-requires
+    mul-copy-2
+    sub-copy-2
+    part-copy-start-2
+    part-copy-end-2
+    sub-copy-3
+    copy-requires-2
+    sub-copy-4
+    add-copy
+    copy-requires-3
+    same-length
+    returns)

@@ -1,0 +1,81 @@
+// Stem and cycle, laid out.
+ghost use mathlib.Core.Path.{_≡_};
+ghost use Prim.Native.Nat.{ℕ, _+_, _≤_, _<_};
+ghost use lib.ListN.{length};
+ghost use lib.Seq.{slice, paste};
+ghost use Rattle.walks.specs.Walk.{at};
+ghost use Rattle.walks.specs.Lasso.{Tree, Stem};
+ghost use Rattle.lasso.specs.Answer.{WellFormed, LaidOut};
+use crate::form::node;
+
+// The tree's arcs from node 0 to h, at the end of order; where they begin.
+fn stem(from: &[u16], tree: &[usize], nodes: usize, order: &mut [usize], h: usize) -> usize
+    requires { ⌜ Tree (now from) (now tree) nodes ⌝ ∗ ⌜ h < nodes ⌝ ∗ ⌜ nodes ≤ length (now tree) ⌝ ∗ ⌜ nodes ≤ length (now order) ⌝ }
+    ensures { λ top. ⌜ top ≤ length (now (order .entry)) ⌝ ∗ ⌜ length (now (order .entry)) ≤ top + nodes ⌝
+        ∗ ⌜ ((g : Tree (now (from .entry)) (now (tree .entry)) nodes) → Stem (now (from .entry)) (g .T) (g .m) 0 (slice top (length (now (order .exit))) (now (order .exit))) h) ⌝ }
+{
+    let mut x = h;
+    let mut top = order.len();
+    while 0 < x {
+        let e = tree[x];
+        top -= 1;
+        order[top] = e;
+        x = node(from, e);
+    }
+    top
+}
+
+// The place of the arc that leaves the first discovered node.
+fn first(from: &[u16], cycle: &[usize], k: usize) -> usize
+    requires { ⌜ 0 < k ⌝ ∗ ⌜ k ≤ length (now cycle) ⌝ ∗ ⌜ ((i : ℕ) → i < k → at (now cycle) i < length (now from)) ⌝ }
+    ensures { λ t. ⌜ t < k ⌝ ∗ ⌜ ((i : ℕ) → i < k → at (now (from .entry)) (at (now (cycle .entry)) t) ≤ at (now (from .entry)) (at (now (cycle .entry)) i)) ⌝ }
+{
+    let mut t = 0;
+    let mut best = node(from, cycle[0]);
+    let mut i = 1;
+    while i < k {
+        let x = node(from, cycle[i]);
+        if x < best {
+            best = x;
+            t = i;
+        }
+        i += 1;
+    }
+    t
+}
+
+// The first n entries of s, from a place of d on.
+fn copy(s: &[usize], n: usize, d: &mut [usize], start: usize)
+    requires { ⌜ n ≤ length (now s) ⌝ ∗ ⌜ start + n ≤ length (now d) ⌝ }
+    ensures { λ _. ⌜ now (d .exit) ≡ paste (now (d .entry)) start (now (s .entry)) n ⌝ }
+{
+    let mut i = 0;
+    while i < n {
+        let x = s[i];
+        d[start + i] = x;
+        i += 1;
+    }
+}
+
+// The length of the stem; stem and cycle are written.
+pub(crate) fn lay_out(
+    from: &[u16],
+    to: &[u16],
+    tree: &[usize],
+    nodes: usize,
+    cycle: &[usize],
+    k: usize,
+    arcs: &mut [usize],
+) -> usize
+    requires { ⌜ WellFormed (now from) (now to) (now tree) (now cycle) nodes k (length (now arcs)) ⌝ }
+    ensures { λ s. ⌜ LaidOut (now (from .entry)) (now (to .entry)) (now (cycle .entry)) nodes k s (now (arcs .entry)) (now (arcs .exit)) ⌝ }
+{
+    let mut order = [0usize; 2048];
+    let turn = first(from, cycle, k);
+    let top = stem(from, tree, nodes, &mut order, node(from, cycle[turn]));
+    let s = 2048 - top;
+    copy(&order[top..], s, arcs, 0);
+    copy(&cycle[turn..k], k - turn, arcs, s);
+    copy(cycle, turn, arcs, s + (k - turn));
+    s
+}
