@@ -1,0 +1,96 @@
+// Runs the least ratio on small graphs and on rings of 2,048 arcs, and prints each answer.
+use libc::STDOUT_FILENO;
+use ratio::Verdict;
+
+fn print_signed(z: i64) {
+    if z < 0 {
+        io::write_all(STDOUT_FILENO, b"-");
+        io::print_decimal(STDOUT_FILENO, ((-1 - z) as u64) + 1);
+    } else {
+        io::print_decimal(STDOUT_FILENO, z as u64);
+    }
+}
+
+fn print_ratio(p: i64, q: u64, arcs: usize) {
+    io::write_all(STDOUT_FILENO, b"ratio ");
+    print_signed(p);
+    io::write_all(STDOUT_FILENO, b" ");
+    io::print_decimal(STDOUT_FILENO, q);
+    io::write_all(STDOUT_FILENO, b", arcs ");
+    io::print_decimal(STDOUT_FILENO, arcs as u64);
+}
+
+fn run(name: &[u8], from: &[u16], to: &[u16], cost: &[i16], reward: &[u16], nodes: usize) {
+    let mut potential = [0i64; 2048];
+    let mut cycle = [0usize; 2048];
+    io::write_all(STDOUT_FILENO, name);
+    io::write_all(STDOUT_FILENO, b": ");
+    let v = ratio::least_ratio(from, to, cost, reward, nodes, &mut potential, &mut cycle);
+    match v {
+        Verdict::Malformed => {
+            io::write_all(STDOUT_FILENO, b"malformed");
+        }
+        Verdict::NoCycle => {
+            io::write_all(STDOUT_FILENO, b"no cycle");
+        }
+        Verdict::NoReward => {
+            io::write_all(STDOUT_FILENO, b"no reward");
+        }
+        Verdict::Ratio(p, q, arcs) => {
+            print_ratio(p, q, arcs);
+        }
+    }
+    io::write_all(STDOUT_FILENO, b"\n");
+}
+
+// One cycle through 2,048 nodes: each arc costs the same, the first earns `first`, the others `other`.
+fn ring(name: &[u8], price: i16, first: u16, other: u16) {
+    let mut from = [0u16; 2048];
+    let mut to = [0u16; 2048];
+    let cost = [price; 2048];
+    let mut reward = [other; 2048];
+    reward[0] = first;
+    for i in 0..2048u16 {
+        from[i as usize] = i;
+        to[i as usize] = (i + 1) % 2048;
+    }
+    run(name, &from, &to, &cost, &reward, 2048);
+}
+
+fn main() {
+    run(b"-6/4", &[0, 1], &[1, 0], &[-4, -2], &[2, 2], 2);
+    run(b"zero", &[0, 1], &[1, 0], &[-4, 4], &[2, 2], 2);
+    run(
+        b"two cycles",
+        &[0, 1, 1],
+        &[1, 0, 1],
+        &[3, 4, 3],
+        &[1, 1, 1],
+        2,
+    );
+    run(b"a loop at the start", &[0], &[0], &[7], &[21], 1);
+    run(b"no arc", &[], &[], &[], &[], 1);
+    run(b"a path", &[0, 1], &[1, 2], &[1, 1], &[1, 1], 3);
+    run(
+        b"a cycle that is not reached",
+        &[1, 2],
+        &[2, 1],
+        &[1, 1],
+        &[1, 1],
+        3,
+    );
+    run(
+        b"an idle cycle beside one that earns",
+        &[0, 0],
+        &[0, 0],
+        &[1, 1],
+        &[5, 0],
+        1,
+    );
+    run(b"an arc to no node", &[0], &[1], &[1], &[1], 1);
+    run(b"no node", &[], &[], &[], &[], 0);
+    ring(b"largest cost", 10000, 1, 0);
+    ring(b"least cost", -10000, 1, 0);
+    ring(b"largest cost and reward", 10000, 10000, 10000);
+    ring(b"a ring that earns nothing", 1, 0, 0);
+}
