@@ -1,0 +1,65 @@
+-- What the search leaves in the buffers is what it answers, over plain lists.
+use mathlib.Core.Path.{_≡_, refl, sym, ap, subst, _∙_}
+use mathlib.Core.List.{List, _++_}
+use Prim.Native.Nat.{ℕ, _+_, _-_, _≤_, _<_}
+use native.Mathlib.Omega.{arith}
+use lib.ListN.{length, take, drop, List·getD-append}
+use lib.Seq.{slice, length-slice, length-take-le, getD-take, take-at, drop-at}
+use lib.IntN.{ℤ, pos}
+use Rattle.walks.specs.Walk.{atℤ}
+use Rattle.walks.specs.Weight.{weightOf, NegativeCycle, Potential}
+use Rattle.walks.specs.Form.{Graph, InRange}
+use Rattle.walks.proofs.Codes.{codes}
+use Rattle.walks.proofs.Rounds.{start, Least}
+use Rattle.walks.proofs.Climbs.{Negative}
+use Rattle.walks.proofs.Answers.{coded, negative, short, potential, none-below}
+use Rattle.graph.specs.Answer.{CycleFound, PotentialsFound}
+
+module _ (F T : List ℕ) (cost : List ℤ) (reward : List ℕ) (a b c : ℤ) (n : ℕ) (g : Graph F T cost reward n) (k : InRange a b c) where
+  abbrev weight : ℕ → ℤ
+  weight = weightOf a b c cost reward
+
+  abbrev W : ℕ → ℕ
+  W = coded a b c cost reward
+
+  -- the potentials are copied from d
+  pub potentials-found : (p p' : List ℤ) (q q' : List ℕ) (d : List ℤ) → length d ≡ 2048 → Least F T W (length F) (codes start d) 2048
+      → p' ≡ take n d ++ drop n p → q' ≡ q → PotentialsFound F T weight n p p' q q'
+  potentials-found p p' q q' d l o e f = record {
+    potentials = λ v h. subst (Potential F T (length F) weight v) (sym (entry v h)) (potential F T cost reward a b c n g k d l o v (omega (arith, g .nodes)));
+    none = none-below F T cost reward a b c n g k d l o;
+    rest = ap (drop n) e ∙ drop-at (take n d) (drop n p) n long;
+    kept = f;
+  }
+    where
+      long : length (take n d) ≡ n
+      long = length-take-le n d (omega (arith, g .nodes))
+
+      entry : (v : ℕ) → v < n → atℤ p' v ≡ atℤ d v
+      entry v h = ap (λ (x : List ℤ). atℤ x v) e ∙ List·getD-append (take n d) (drop n p) (pos 0) v (omega (arith, long)) ∙ getD-take n d v (pos 0) h
+
+  -- the arcs are copied from the part of order from i to j
+  module _ (order : List ℕ) (i j : ℕ) (l : length order ≡ 2048) (h : j ≤ 2048) (o : Negative F T W (length F) (slice i j order)) where
+    part : length (slice i j order) ≡ j - i
+    part = length-slice i j order (omega arith)
+
+    pub few : j - i ≤ n
+    few = omega (arith, short F T cost reward a b c n g k (slice i j order) o, part)
+
+    pub cycle-found : (p p' : List ℤ) (q q' : List ℕ) → i < j → p' ≡ p → q' ≡ slice i (i + (j - i)) order ++ drop (j - i) q
+        → CycleFound F T weight n (j - i) p p' q q'
+    cycle-found p p' q q' lt f e = record {
+      short = few;
+      negative = rw front (negative F T cost reward a b c n g k (slice i j order) o);
+      rest = ap (drop (j - i)) written ∙ drop-at (slice i j order) (drop (j - i) q) (j - i) part;
+      kept = f;
+    }
+      where
+        whole : i + (j - i) ≡ j
+        whole = omega arith
+
+        written : q' ≡ slice i j order ++ drop (j - i) q
+        written = e ∙ ap (λ (t : ℕ). slice i t order ++ drop (j - i) q) whole
+
+        front : take (j - i) q' ≡ slice i j order
+        front = ap (take (j - i)) written ∙ take-at (slice i j order) (drop (j - i) q) (j - i) part

@@ -1,0 +1,184 @@
+// Bellman-Ford in place. One round relaxes every arc once; a round without a fall leaves the potentials, and after any other the climb
+// from a node that fell looks for a cycle. A fall is stamped with its time, 131072 times the round and the arc's number and 1.
+ghost use mathlib.Core.Path.{_≡_};
+ghost use Prim.Native.Nat.{ℕ, _+_, _<_, _≤_};
+ghost use lib.ListN.{length, set};
+ghost use lib.IntN.{natAbs};
+ghost use Rattle.walks.specs.Walk.{at};
+ghost use Rattle.walks.specs.Weight.{weightOf};
+ghost use Rattle.walks.specs.Form.{Graph, InRange};
+ghost use Rattle.walks.proofs.Codes.{code, codes};
+ghost use Rattle.walks.proofs.Signed.{Sum, Less, Low};
+ghost use Rattle.walks.proofs.Rounds.{bias, start, most, deep, State, Fine, Relaxed, Ended};
+ghost use Rattle.walks.proofs.Answers.{coded};
+ghost use Rattle.graph.specs.Answer.{CycleFound, PotentialsFound};
+use crate::Coefficients;
+use crate::climb;
+use crate::copy;
+use crate::entries;
+
+fn add(x: i64, y: i64) -> i64
+    requires { ⌜ start < code start x + deep ⌝ ∗ ⌜ code start x ≤ start + deep ⌝ ∗ ⌜ natAbs y ≤ most ⌝ }
+    ensures { λ r. ⌜ Sum (code start x) (code bias y) r ⌝ }
+{
+    x + y
+}
+
+// The potential of u and a weight.
+fn beyond(dist: &[i64], u: usize, w: i64) -> i64
+    requires { ⌜ u < length (now dist) ⌝ ∗ ⌜ start < at (codes start (now dist)) u + deep ⌝ ∗ ⌜ at (codes start (now dist)) u ≤ start + deep ⌝ ∗ ⌜ natAbs w ≤ most ⌝ }
+    ensures { λ r. ⌜ Sum (at (codes start (now (dist .entry))) u) (code bias w) r ⌝ }
+{
+    let x = dist[u];
+    add(x, w)
+}
+
+fn less(x: i64, y: i64) -> bool
+    requires { ⌜ 0 < code start y ⌝ }
+    ensures { λ b. ⌜ Less (code start x) (code start y) b ⌝ }
+{
+    x < y
+}
+
+// Whether x is below the potential of v.
+fn improves(dist: &[i64], v: usize, x: i64) -> bool
+    requires { ⌜ v < length (now dist) ⌝ ∗ ⌜ 0 < at (codes start (now dist)) v ⌝ }
+    ensures { λ b. ⌜ Less (code start x) (at (codes start (now (dist .entry))) v) b ⌝ }
+{
+    let y = dist[v];
+    less(x, y)
+}
+
+// Whether the potential of v is −10^15 or less: then the climb from v finds a cycle.
+fn low(dist: &[i64], v: usize) -> bool
+    requires { ⌜ v < length (now dist) ⌝ }
+    ensures { λ b. ⌜ Low (at (codes start (now (dist .entry))) v) b ⌝ }
+{
+    let y = dist[v];
+    less(y, -999999999999999)
+}
+
+fn put(dist: &mut [i64], v: usize, x: i64)
+    requires { ⌜ v < length (now dist) ⌝ }
+    ensures { λ _. ⌜ codes start (now (dist .exit)) ≡ set (codes start (now (dist .entry))) v (code start x) ⌝ }
+{
+    dist[v] = x;
+}
+
+// Relaxes the arc e in the round that begins at b, unless its source has not fallen since the arc was relaxed last.
+fn relax(
+    from: &[u16],
+    to: &[u16],
+    cost: &[i16],
+    reward: &[u16],
+    k: Coefficients,
+    dist: &mut [i64],
+    parent: &mut [usize],
+    stamp: &mut [usize],
+    b: usize,
+    e: usize,
+) -> bool
+    requires { ⌜ Graph (now from) (now to) (now cost) (now reward) 2048 ⌝ ∗ ⌜ InRange (k .a) (k .b) (k .c) ⌝ ∗ ⌜ e < length (now from) ⌝ }
+    requires { ⌜ State (now from) (now to) (coded (k .a) (k .b) (k .c) (now cost) (now reward)) (length (now from))
+        (codes start (now dist)) (now parent) (now stamp) b e 2048 ⌝ ∗ ⌜ Fine (codes start (now dist)) 2048 ⌝ }
+    ensures { λ t. ⌜ Relaxed (now (from .entry)) (now (to .entry)) (coded (k .a) (k .b) (k .c) (now (cost .entry)) (now (reward .entry))) (length (now (from .entry)))
+        (codes start (now (dist .entry))) (now (stamp .entry)) (codes start (now (dist .exit))) (now (parent .exit)) (now (stamp .exit)) b 2048 e t ⌝ }
+{
+    let u = entries::entry(from, e);
+    if stamp[u] + 131072 <= b + e {
+        return false;
+    }
+    let v = entries::entry(to, e);
+    let x = beyond(dist, u, entries::weight(cost, reward, k, e));
+    if improves(dist, v, x) {
+        put(dist, v, x);
+        parent[v] = e + 1;
+        stamp[v] = b + e + 1;
+        return true;
+    }
+    false
+}
+
+// One round: each arc is relaxed once, up to one that makes a potential fall too low. Answers a node that fell, or 2048.
+fn round(
+    from: &[u16],
+    to: &[u16],
+    cost: &[i16],
+    reward: &[u16],
+    k: Coefficients,
+    dist: &mut [i64],
+    parent: &mut [usize],
+    stamp: &mut [usize],
+    b: usize,
+) -> usize
+    requires { ⌜ Graph (now from) (now to) (now cost) (now reward) 2048 ⌝ ∗ ⌜ InRange (k .a) (k .b) (k .c) ⌝ }
+    requires { ⌜ State (now from) (now to) (coded (k .a) (k .b) (k .c) (now cost) (now reward)) (length (now from))
+        (codes start (now dist)) (now parent) (now stamp) b 0 2048 ⌝ ∗ ⌜ Fine (codes start (now dist)) 2048 ⌝ }
+    ensures { λ v. ⌜ Ended (now (from .entry)) (now (to .entry)) (coded (k .a) (k .b) (k .c) (now (cost .entry)) (now (reward .entry))) (length (now (from .entry)))
+        (codes start (now (dist .exit))) (now (parent .exit)) (now (stamp .exit)) b 2048 v ⌝ }
+{
+    let mut seen = 2048;
+    let mut e = 0;
+    while e < from.len() {
+        if relax(from, to, cost, reward, k, dist, parent, stamp, b, e) {
+            seen = entries::entry(to, e);
+            if low(dist, seen) {
+                return seen;
+            }
+        }
+        e += 1;
+    }
+    seen
+}
+
+// The number of arcs of a negative cycle, which stand at the front of cycle; or 0, and the potentials stand at the front of potential.
+pub(crate) fn search(
+    from: &[u16],
+    to: &[u16],
+    cost: &[i16],
+    reward: &[u16],
+    k: Coefficients,
+    nodes: usize,
+    potential: &mut [i64],
+    cycle: &mut [usize],
+) -> usize
+    requires { ⌜ Graph (now from) (now to) (now cost) (now reward) nodes ⌝ ∗ ⌜ InRange (k .a) (k .b) (k .c) ⌝ }
+    requires { ⌜ nodes ≤ length (now potential) ⌝ ∗ ⌜ nodes ≤ length (now cycle) ⌝ }
+    ensures cycle { λ r. ⌜ (0 < r → CycleFound (now (from .entry)) (now (to .entry)) (weightOf (k .a) (k .b) (k .c) (now (cost .entry)) (now (reward .entry))) nodes r
+        (now (potential .entry)) (now (potential .exit)) (now (cycle .entry)) (now (cycle .exit))) ⌝ }
+    ensures potentials { λ (r : ℕ). ⌜ (r ≡ 0 → PotentialsFound (now (from .entry)) (now (to .entry)) (weightOf (k .a) (k .b) (k .c) (now (cost .entry)) (now (reward .entry))) nodes
+        (now (potential .entry)) (now (potential .exit)) (now (cycle .entry)) (now (cycle .exit))) ⌝ }
+{
+    let mut dist = [1152921504606846976i64; 2048];
+    let mut parent = [0usize; 2048];
+    let mut stamp = [0usize; 2048];
+    let mut order = [0usize; 2048];
+    dist[0] = 0;
+    stamp[0] = 131072;
+    let mut b = 131072;
+    loop {
+        let v = round(
+            from,
+            to,
+            cost,
+            reward,
+            k,
+            &mut dist,
+            &mut parent,
+            &mut stamp,
+            b,
+        );
+        if v == 2048 {
+            copy::potentials(&dist, potential, nodes);
+            return 0;
+        }
+        let part = climb::climb(from, &parent, &mut order, v);
+        let at = part.start;
+        let end = part.end;
+        if at < end {
+            copy::arcs(&order, cycle, at, end - at);
+            return end - at;
+        }
+        b += 131072;
+    }
+}

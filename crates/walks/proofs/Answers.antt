@@ -1,0 +1,128 @@
+-- From what the rounds and the climb leave, in codes, to the weights as integers.
+use mathlib.Core.Path.{_≡_, refl, sym, ap, subst, _∙_}
+use mathlib.Core.Logic.{inl, inr}
+use mathlib.Core.List.{List, [], _∷_}
+use Prim.Native.Nat.{ℕ, _+_, _*_, _≤_, _<_}
+use native.Mathlib.Omega.{arith}
+use native.Mathlib.Decide.{decLt}
+use native.Mathlib.Nat.{lt-of-lt-of-le}
+use lib.ListN.{length}
+use lib.IntN.{ℤ, pos, natAbs, _+ℤ_}
+use lib.Signed.{_<ℤ_}
+use Rattle.integers.proofs.Parts.{up, dn, Parts, abs-parts, plus, ext, le-of, lt-of}
+use Rattle.integers.proofs.Pigeonhole.{pigeon}
+use Rattle.walks.specs.Walk.{at, atℤ, Walk, Reached, Distinct}
+use Rattle.walks.specs.Weight.{weightOf, sum, total, NegativeCycle, NoneNegative, LeastWeight, unreached, Potential}
+use Rattle.walks.specs.Form.{Graph, InRange}
+use Rattle.walks.proofs.Walks.{walk-arc, walk-end, sources}
+use Rattle.walks.proofs.Weights.{all-parts, none-negative}
+use Rattle.walks.proofs.Codes.{code, codes, length-codes, at-codes, code-parts, code-abs}
+use Rattle.walks.proofs.Rounds.{bias, start, inf, most, deep, Arcs, Attained, Least}
+use Rattle.walks.proofs.RoundLaws.{least}
+use Rattle.walks.proofs.Climbs.{Negative}
+
+-- a graph of n nodes is one of 2048
+pub widen : (F T : List ℕ) (cost : List ℤ) (reward : List ℕ) (n : ℕ) → Graph F T cost reward n → Graph F T cost reward 2048
+widen F T cost reward n g = record {
+  some = omega arith;
+  nodes = omega arith;
+  arcs = g .arcs;
+  tos = g .tos;
+  costs = g .costs;
+  rewards = g .rewards;
+  arc = λ e h. record {
+    source = lt-of-lt-of-le (g .arc e h .source) (g .nodes);
+    target = lt-of-lt-of-le (g .arc e h .target) (g .nodes);
+    cost-small = g .arc e h .cost-small;
+    reward-small = g .arc e h .reward-small;
+  };
+}
+
+-- the weights of the arcs, in codes
+unfoldable pub coded : ℤ → ℤ → ℤ → List ℤ → List ℕ → ℕ → ℕ
+coded a b c cost reward e = code bias (weightOf a b c cost reward e)
+
+pub coded-is : (a b c : ℤ) (cost : List ℤ) (reward : List ℕ) (e : ℕ) (z : ℤ) → z ≡ weightOf a b c cost reward e → code bias z ≡ coded a b c cost reward e
+unfolding coded
+coded-is a b c cost reward e z p = ap (code bias) p
+
+module _ (F T : List ℕ) (cost : List ℤ) (reward : List ℕ) (a b c : ℤ) (n : ℕ) (g : Graph F T cost reward n) (k : InRange a b c) where
+  abbrev weight : ℕ → ℤ
+  weight = weightOf a b c cost reward
+
+  abbrev W : ℕ → ℕ
+  W = coded a b c cost reward
+
+  abbrev m : ℕ
+  m = length F
+
+  pub small : (e : ℕ) → e < m → natAbs (weight e) ≤ most
+  small e h = all-parts a b c (atℤ cost e) (pos (at reward e)) k (g .arc e h .cost-small) (g .arc e h .reward-small)
+
+  pub parts : (e : ℕ) → e < m → Parts (weight e) (W e) bias
+  unfolding coded
+  parts e h = code-parts bias (weight e) (omega (arith, small e h, abs-parts (weight e)))
+
+  pub arcs : Arcs F T W m 2048
+  arcs = record {
+    some = omega arith;
+    small = omega arith;
+    few = g .arcs;
+    froms = refl;
+    tos = g .tos;
+    source = λ e h. lt-of-lt-of-le (g .arc e h .source) (g .nodes);
+    target = λ e h. lt-of-lt-of-le (g .arc e h .target) (g .nodes);
+    light = λ e h. omega (arith, parts e h, small e h, abs-parts (weight e));
+    heavy = λ e h. omega (arith, parts e h, small e h, abs-parts (weight e));
+  }
+
+  sum-parts : (x : ℕ) (l : List ℕ) (y : ℕ) → Walk F T m x l y → Parts (sum weight l) (total W l) (bias * length l)
+  sum-parts x [] y w = omega arith
+  sum-parts x (e ∷ l) y w =
+      let p : Parts (weight e +ℤ sum weight l) (W e + total W l) (bias + bias * length l) =
+      plus (weight e) (sum weight l) (parts e (w .0)) (sum-parts (at T e) l y (w .2)) in omega arith
+
+  -- ---- a cycle
+  pub negative : (l : List ℕ) → Negative F T W m l → NegativeCycle F T m weight l
+  negative l o = record {
+    hub = o .hub;
+    reached = record { path = o .path; walk = o .come };
+    cycle = record { some = o .some; walk = o .walk };
+    simple = sources F T m (o .hub) l (o .walk) (o .simple);
+    negative = lt-of (sum weight l) (pos 0) (omega (arith, sum-parts (o .hub) l (o .hub) (o .walk), o .below));
+  }
+
+  -- it has no more arcs than the graph has nodes
+  pub short : (l : List ℕ) → Negative F T W m l → length l ≤ n
+  short l o = pigeon (length l) n (λ i. at T (at l i)) (λ i h. g .arc (at l i) (walk-arc F T m (o .hub) l (o .hub) (o .walk) i h) .target) (o .simple)
+
+  -- ---- potentials
+  module _ (d : List ℤ) (l : length d ≡ 2048) (o : Least F T W m (codes start d) 2048) where
+    lowest : (v : ℕ) (z : ℤ) → v < 2048 → at (codes start d) v < inf → Parts z (at (codes start d) v) start → LeastWeight F T m weight v z
+    lowest v z h i p = let r : Attained F T W m (at (codes start d) v) v = o .reached v h i in record {
+      path = r .path;
+      walk = r .walk;
+      weighs = ext (sum weight (r .path)) z (omega (arith, sum-parts 0 (r .path) v (r .walk), r .weighs));
+      least = λ c w. le-of z (sum weight c) (omega (arith, sum-parts 0 c v w, least F T W m (codes start d) 2048 arcs o v c w));
+    }
+
+    pub potential : (v : ℕ) → v < 2048 → Potential F T m weight v (atℤ d v)
+    potential v h = potential′ (at-codes start d v (omega arith))
+      where
+        potential′ : at (codes start d) v ≡ code start (atℤ d v) → Potential F T m weight v (atℤ d v)
+        potential′ p =
+            let q : Parts (atℤ d v) (code start (atℤ d v)) start = code-parts start (atℤ d v) (omega (arith, o .floor v h)) in
+            elim (decLt (at (codes start d) v) inf) [
+              | yes i ↦ inr (
+                lowest v (atℤ d v) h i (rw p q),
+                code-abs start deep (atℤ d v) (omega (arith, o .floor v h)) (omega (arith, o .floor v h)) (omega (arith, o .ceiling v h i)),
+              )
+              | no i ↦ inl (
+                ext (atℤ d v) unreached (omega (arith, o .top v h)),
+                λ r. i (least F T W m (codes start d) 2048 arcs o v (r .path) (r .walk) .0),
+              )
+            ]
+
+    pub none-below : NoneNegative F T m weight
+    none-below = none-negative F T m weight 2048 (atℤ d)
+        (λ x r. walk-end F T m 2048 (arcs .target) 0 (r .path) x (omega arith) (r .walk)) potential

@@ -1,0 +1,17 @@
+pub mod Walks
+pub mod Weights
+pub mod Tests
+pub mod Copies
+pub mod Signed
+pub mod Codes
+pub mod Rounds
+pub mod Zeros
+pub mod Relaxing
+pub mod RelaxTurns
+pub mod RoundLaws
+pub mod Climbs
+pub mod ClimbTurns
+pub mod RoundTurns
+pub mod Answers
+pub mod Lassos
+pub mod Trees

@@ -1,0 +1,64 @@
+-- Stems along a search tree, and parts of lists of arcs.
+use mathlib.Core.Path.{_≡_, refl, sym, ap, subst, _∙_}
+use mathlib.Core.List.{List, [], _∷_, _++_}
+use Prim.Native.Nat.{ℕ, zero, suc, _+_, _-_, _≤_, _<_}
+use native.Mathlib.Omega.{arith}
+use lib.ListN.{length, take, drop, take-append-drop, set, length-set}
+use lib.Seq.{take-take, drop-drop, take-nil, slice, slice-empty, slice-cons, getD-set-same, take-set-lt, drop-set-lt}
+use Rattle.walks.specs.Walk.{at, Walk}
+use Rattle.walks.proofs.Lassos.{Rising}
+
+-- the tree arc of each node but 0 comes from an earlier node, whatever the graph's other parts are
+pub record Tree (F tree : List ℕ) (n : ℕ) : Type 0 where
+  pub T : List ℕ
+  pub m : ℕ
+  pub froms : length F ≡ m
+  pub arc : (v : ℕ) → v < n → 0 < v → at tree v < m
+  pub ends : (v : ℕ) → v < n → 0 < v → at T (at tree v) ≡ v
+  pub earlier : (v : ℕ) → v < n → 0 < v → at F (at tree v) < v
+
+-- the arcs of l lead from x to h, each to a later node
+pub record Stem (F T : List ℕ) (m x : ℕ) (l : List ℕ) (h : ℕ) : Type 0 where
+  pub walk : Walk F T m x l h
+  pub rising : Rising F T l
+
+pub stem-none : (F T : List ℕ) (m h : ℕ) (l : List ℕ) → Stem F T m h (slice (length l) (length l) l) h
+stem-none F T m h l = rw (slice-empty (length l) l) record { walk = refl; rising = tt }
+
+-- one arc more, in front
+pub stem-more : (F tree : List ℕ) (n x a h : ℕ) (l : List ℕ) (g : Tree F tree n) → x < n → 0 < x → a < length l
+    → Stem F (g .T) (g .m) x (slice (suc a) (length l) l) h
+    → Stem F (g .T) (g .m) (at F (at tree x)) (slice a (length (set l a (at tree x))) (set l a (at tree x))) h
+stem-more F tree n x a h l g hn hx ha s =
+    let z : length (set l a (at tree x)) ≡ length l = length-set l a (at tree x) in
+    rw (
+      z,
+      slice-cons a (length l) (set l a (at tree x)) 0 ha (omega arith),
+      getD-set-same l a (at tree x) 0 ha,
+      take-set-lt (length l) l a (at tree x) ha,
+      drop-set-lt (suc a) (take (length l) l) a (at tree x) (omega arith),
+    ) record {
+      walk = (
+        g .arc x hn hx,
+        refl,
+        subst (λ (k : ℕ). Walk F (g .T) (g .m) k (slice (suc a) (length l) l) h) (sym (g .ends x hn hx)) (s .walk),
+      );
+      rising = (omega (arith, g .ends x hn hx, g .earlier x hn hx), s .rising);
+    }
+
+-- ---- parts of lists
+add′ : (a n : ℕ) → suc a + n ≡ suc (a + n)
+add′ a n = omega arith
+
+take-part : (a n b : ℕ) (l : List ℕ) → a + n ≤ b → take n (drop a (take b l)) ≡ slice a (a + n) l
+take-part zero n b l h = let e : n ≡ 0 + n = omega arith in take-take n b l (omega arith) ∙ ap (λ (i : ℕ). take i l) e
+take-part (suc a) n zero l h = absurd (omega arith)
+take-part (suc a) n (suc b) [] h = take-nil n ∙ rw (add′ a n) refl
+take-part (suc a) n (suc b) (x ∷ l) h = take-part a n b l (omega arith) ∙ rw (add′ a n) refl
+
+pub slice-join : (a k b : ℕ) (l : List ℕ) → a ≤ k → k ≤ b → slice a b l ≡ slice a k l ++ slice k b l
+slice-join a k b l h g =
+    let p : a + (k - a) ≡ k = omega arith in
+    sym (take-append-drop (k - a) (slice a b l))
+    ∙ ap (λ (s : List ℕ). s ++ drop (k - a) (slice a b l)) (take-part a (k - a) b l (omega arith) ∙ ap (λ (n : ℕ). slice a n l) p)
+    ∙ ap (λ (s : List ℕ). slice a k l ++ s) (drop-drop (k - a) a (take b l) ∙ ap (λ (n : ℕ). drop n (take b l)) p)
