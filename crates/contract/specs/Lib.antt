@@ -1,0 +1,4 @@
+pub mod Questions
+pub mod Accepted
+pub mod Plan
+pub mod Explored
