@@ -1,2 +1,4 @@
 pub mod Hand
 pub mod Arcs
+pub mod Counts
+pub mod Searches
