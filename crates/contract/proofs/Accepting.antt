@@ -2,7 +2,7 @@
 use mathlib.Core.Path.{_≡_, sym, ap, _∙_, subst}
 use mathlib.Core.List.{List}
 use mathlib.Core.Option.{Option}
-use Prim.Native.Nat.{ℕ, _+_, _≤_, _<_}
+use Prim.Native.Nat.{ℕ, _≤_, _<_}
 use native.Mathlib.Decide.{decLt}
 use native.Mathlib.Omega.{arith}
 use lib.IntN.{ℤ, pos, natAbs}
@@ -13,17 +13,16 @@ use Rattle.automaton.specs.Weights.{Feasible}
 use Rattle.automaton.specs.Weights as Steps
 use Rattle.automaton.proofs.Tests.{by-order}
 use Rattle.automaton.proofs.Potentials.{least-feasible}
-use Rattle.automaton.proofs.Ratios.{least-ratio}
 use Rattle.walks.specs.Walk.{at, atℤ}
 use Rattle.walks.specs.Weight.{LeastWeight, Potential}
 use Rattle.walks.proofs.Weights.{least-of}
 use Rattle.contract.specs.Questions.{IdleCycle}
-use Rattle.contract.specs.Accepted.{Listed, NodeList, PotentialList}
+use Rattle.contract.specs.Accepted.{NodeList, PotentialList}
 use Rattle.contract.specs.Explored.{Found, Explored}
 use Rattle.contract.specs.Certificate.{indexOf}
 use Rattle.contract.proofs.Hand.{weightAt, Sorted}
 use Rattle.contract.proofs.Indices.{first-at}
-use Rattle.contract.proofs.Counts.{Hit, onto}
+use Rattle.contract.proofs.Counts.{onto}
 use Rattle.contract.proofs.Arcs.{listed, all-reached}
 use Rattle.contract.proofs.Searches.{potential}
 

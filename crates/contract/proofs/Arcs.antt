@@ -13,7 +13,7 @@ use Rattle.walks.specs.Walk as Graph
 use Rattle.walks.specs.Walk.{at, atℤ}
 use Rattle.walks.specs.Weight.{sum, total}
 use Rattle.contract.specs.Accepted.{Listed}
-use Rattle.contract.specs.Explored.{Found, ArcOf, Explored}
+use Rattle.contract.specs.Explored.{Found, Explored}
 
 -- cost and reward of a list of arcs
 abbrev pub costOf : Found → List ℕ → ℤ
@@ -93,9 +93,9 @@ module _ (step : ℕ → ℕ → Option (Priced ℕ)) (start : ℕ) (g : Found) 
       let s = then-split (step (at (g .node) a) code) (λ t. chain step t l) (record { to = z; cost = c; reward = r }) (w .walks) in
       let t : Taken g a code (s .first) = taken a code (s .first) h (s .took) in
       let goes : Walk step (at (g .node) (at (g .to) (t .arc))) l (s .second .to) (s .second .cost) (s .second .reward) =
-        record { walks = ap (λ (v : Priced ℕ). chain step (v .to) l) (t .is) ∙ s .went } in
+      record { walks = ap (λ (v : Priced ℕ). chain step (v .to) l) (t .is) ∙ s .went } in
       let rest : Route g (at (g .to) (t .arc)) l (s .second .to) (s .second .cost) (s .second .reward) =
-        route-of (at (g .to) (t .arc)) l (s .second .to) (s .second .cost) (s .second .reward) (x .target (t .arc) (t .below)) goes in
+      route-of (at (g .to) (t .arc)) l (s .second .to) (s .second .cost) (s .second .reward) (x .target (t .arc) (t .below)) goes in
       record {
         end = rest .end;
         below = rest .below;
@@ -140,7 +140,7 @@ module _ (step : ℕ → ℕ → Option (Priced ℕ)) (start : ℕ) (g : Found) 
   cycle-arcs c r o =
       let i = listed (o .node) (o .reached) in
       let w : Walk step (at (g .node) (i .index)) (o .cycle .codes) (at (g .node) (i .index)) c r =
-        subst (λ (z : ℕ). Walk step z (o .cycle .codes) z c r) (sym (i .is)) (o .cycle .back) in
+      subst (λ (z : ℕ). Walk step z (o .cycle .codes) z c r) (sym (i .is)) (o .cycle .back) in
       let k = route-of (i .index) (o .cycle .codes) (at (g .node) (i .index)) c r (i .below) w in
       record {
         node = i .index;

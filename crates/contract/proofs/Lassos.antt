@@ -1,12 +1,12 @@
 -- A lasso of arcs is a lasso of steps.
-use mathlib.Core.Path.{_≡_, refl, sym, ap, _∙_, subst}
+use mathlib.Core.Path.{_≡_, refl, sym, ap, _∙_}
 use mathlib.Core.List.{List, [], _∷_, _++_, map, map-append}
 use mathlib.Core.Option.{Option}
-use Prim.Native.Nat.{ℕ, zero, suc, _+_, _≤_, _<_, min}
+use Prim.Native.Nat.{ℕ, zero, suc, _+_, _≤_, _<_}
 use native.Mathlib.Nat.{le-of-suc-le-suc}
 use native.Mathlib.Omega.{arith}
 use lib.IntN.{ℤ, pos, _*ℤ_}
-use lib.ListN.{length, take, drop, length-append, length-take, length-map, List·getD-map}
+use lib.ListN.{length, take, drop, length-append, length-map}
 use lib.Seq.{slice, take-take, take-append-seam, drop-append-seam, getD-take, ext-getD, length-take-le}
 use Rattle.integers.proofs.Pigeonhole.{pigeon}
 use Rattle.automaton.specs.Priced.{Priced, chain}
@@ -18,7 +18,7 @@ use Rattle.walks.proofs.Walks.{walk-append, walk-arc}
 use Rattle.walks.proofs.Lassos as Arcs
 use Rattle.contract.specs.Accepted.{Lasso}
 use Rattle.contract.specs.Explored.{Found, Explored}
-use Rattle.contract.proofs.Arcs.{costOf, rewardOf, codesOf, walk-of, start-walk, route-of}
+use Rattle.contract.proofs.Arcs.{costOf, rewardOf, codesOf, walk-of, start-walk}
 
 map-take : (f : ℕ → ℕ) (i : ℕ) (l : List ℕ) → take i (map f l) ≡ map f (take i l)
 map-take f zero l = refl
@@ -56,13 +56,6 @@ module _ (step : ℕ → ℕ → Option (Priced ℕ)) (start : ℕ) (g : Found) 
   pub short : size ≤ g .n
   short = pigeon size (g .n) (λ i. at (g .from) (at arcs i)) source-below
       (λ i j hi hj. o .simple i j (omega (arith, all)) (omega (arith, all)))
-
-  -- the cycle is reached and one of the steps'
-  pub hub-reached : Graph.Reached (g .from) (g .to) (g .m) (o .hub)
-  hub-reached = record { path = stem; walk = o .stem }
-
-  pub arc-cycle : Graph.Cycle (g .from) (g .to) (g .m) (o .hub) cycle
-  arc-cycle = record { some = o .some; walk = o .cycle }
 
   module _ (steps : List ℕ) (room : size ≤ length steps) (codes : (i : ℕ) → i < size → at steps i ≡ at (g .code) (at arcs i)) where
     whole-codes : take size steps ≡ codesOf g arcs

@@ -5,3 +5,5 @@ pub mod Counts
 pub mod Searches
 pub mod Lassos
 pub mod Accepting
+pub mod Checks
+pub mod Exits

@@ -2,25 +2,23 @@
 use mathlib.Core.Path.{_≡_, sym, ap, ap₂, _∙_, subst}
 use mathlib.Core.List.{List}
 use mathlib.Core.Option.{Option}
-use Prim.Native.Nat.{ℕ, suc, _+_, _*_, _≤_, _<_}
+use Prim.Native.Nat.{ℕ, _+_, _*_, _≤_, _<_}
 use native.Mathlib.Nat.{mul-zero, zero-mul}
 use native.Mathlib.Omega.{arith}
-use lib.IntN.{ℤ, pos, negsuc, negℤ, _+ℤ_, _-ℤ_, _*ℤ_, zero-*ℤ, *ℤ-zero, *ℤ-comm, +ℤ-idr}
+use lib.IntN.{ℤ, pos, negsuc, negℤ, _+ℤ_, _*ℤ_, zero-*ℤ, *ℤ-zero, +ℤ-idr}
 use lib.ListN.{length}
 use lib.Signed.{_≤ℤ_}
-use Rattle.integers.proofs.Parts.{up, dn, ext, add-parts, sub-parts, mul-parts, neg-up, neg-dn, le-parts, lt-parts}
+use Rattle.integers.proofs.Parts.{up, dn, ext, add-parts, mul-parts, neg-up, neg-dn, le-parts, lt-parts}
 use Rattle.integers.proofs.Products.{up-times, dn-times}
-use Rattle.integers.proofs.Pigeonhole.{pigeon}
 use Rattle.automaton.specs.Priced.{Priced}
-use Rattle.automaton.specs.Walks.{Walk, Reachable, ReachableCycle}
+use Rattle.automaton.specs.Walks.{Walk, ReachableCycle}
 use Rattle.automaton.specs.Weights.{weight, Potential}
 use Rattle.walks.specs.Walk as Graph
-use Rattle.walks.specs.Walk.{at, atℤ}
-use Rattle.walks.specs.Weight.{weightOf, sum, total, NegativeCycle, NoneNegative, LeastWeight}
+use Rattle.walks.specs.Walk.{at}
+use Rattle.walks.specs.Weight.{weightOf, sum, NegativeCycle, NoneNegative, LeastWeight}
 use Rattle.walks.proofs.Weights.{weight-sum}
-use Rattle.contract.specs.Questions.{TooMany, SomeCycle, IdleCycle}
-use Rattle.contract.specs.Accepted.{Listed}
-use Rattle.contract.specs.Explored.{Found, Explored, Overfull}
+use Rattle.contract.specs.Questions.{SomeCycle, IdleCycle}
+use Rattle.contract.specs.Explored.{Found, Explored}
 use Rattle.contract.proofs.Hand.{weight13, weight14, weightAt}
 use Rattle.contract.proofs.Arcs.{costOf, rewardOf, codesOf, Route, CycleOf, start-route, start-walk, cycle-steps, cycle-arcs}
 
@@ -36,7 +34,7 @@ counted-sum b g l =
     let r : ℤ = pos b *ℤ pos (rewardOf g l) in
     let k : ℤ = pos (length l) *ℤ negsuc 0 in
     let e : sum (counted b g) l ≡ pos 0 *ℤ costOf g l +ℤ pos b *ℤ pos (rewardOf g l) +ℤ pos (length l) *ℤ negsuc 0 =
-      weight-sum (pos 0) (pos b) (negsuc 0) (g .cost) (g .reward) l in
+    weight-sum (pos 0) (pos b) (negsuc 0) (g .cost) (g .reward) l in
     rw e (omega (
       arith,
       ap up (zero-*ℤ (costOf g l)),
