@@ -7,3 +7,5 @@ pub mod Lassos
 pub mod Accepting
 pub mod Checks
 pub mod Exits
+pub mod DecodedSheets
+pub mod Graphs
