@@ -26,7 +26,11 @@ use Rattle.contract.proofs.Counts.{onto}
 use Rattle.contract.proofs.Arcs.{listed, all-reached}
 use Rattle.contract.proofs.Searches.{potential}
 
-module _ (step : ℕ → ℕ → Option (Priced ℕ)) (start : ℕ) (g : Found) (x : Explored step start g) where
+-- the potential of a number
+abbrev pub ϕ : Found → List ℤ → ℕ → ℤ
+ϕ g D z = atℤ D (indexOf (g .node) z)
+
+module _ {step : ℕ → ℕ → Option (Priced ℕ)} {start : ℕ} {g : Found} (x : Explored step start g) where
   -- ---- the order of output
   module _ (order nodes : List ℕ) (sorted : Sorted g order nodes) where
     order-one : (i j : ℕ) → i < g .n → j < g .n → at order i ≡ at order j → i ≡ j
@@ -37,7 +41,7 @@ module _ (step : ℕ → ℕ → Option (Priced ℕ)) (start : ℕ) (g : Found) 
     node-list rest = record {
       rising = sorted .rising;
       reachable = λ i h. subst (Reachable step start) (sym (sorted .is i h)) (x .reachable (at order i) (sorted .below i h));
-      complete = λ z r. (let k = listed step start g x z r in
+      complete = λ z r. (let k = listed x z r in
           let a = onto (at order) (g .n) (k .index) order-one (sorted .below) (k .below) in
           record { index = a .place; below = a .below; is = sorted .is (a .place) (a .below) ∙ ap (at (g .node)) (a .is) ∙ k .is });
       rest = rest;
@@ -47,32 +51,28 @@ module _ (step : ℕ → ℕ → Option (Priced ℕ)) (start : ℕ) (g : Found) 
   module _ (p : ℤ) (q : ℕ) (D : List ℤ)
       (found : (v : ℕ) → v < g .n → Potential (g .from) (g .to) (g .m) (weightAt p q g) v (atℤ D v)) where
     least : (v : ℕ) → v < g .n → LeastWeight (g .from) (g .to) (g .m) (weightAt p q g) v (atℤ D v) × (natAbs (atℤ D v) < 1000000000000000)
-    least v h = least-of (g .from) (g .to) (g .m) (weightAt p q g) v (atℤ D v) (found v h) (all-reached step start g x v h)
+    least v h = least-of (g .from) (g .to) (g .m) (weightAt p q g) v (atℤ D v) (found v h) (all-reached x v h)
 
     pub potential-list : (order nodes : List ℕ) → Sorted g order nodes → (potentials : List ℤ)
         → ((i : ℕ) → i < g .n → atℤ potentials i ≡ atℤ D (at order i))
         → ((i : ℕ) → g .n ≤ i → i < length potentials → atℤ potentials i ≡ pos 0) → PotentialList step start p q (g .n) nodes potentials
     potential-list order nodes sorted potentials are rest = record {
       least = λ i h. (let v = at order i in let l = sorted .below i h in rw (sorted .is i h, are i h)
-          (potential step start g x p q (at order i) (atℤ D (at order i)) l (least (at order i) l .0)));
+          (potential x p q (at order i) (atℤ D (at order i)) l (least (at order i) l .0)));
       small = λ i h. rw (are i h) (least (at order i) (sorted .below i h) .1);
       rest = rest;
     }
 
-    -- the potential of a number
-    abbrev pub ϕ : ℕ → ℤ
-    ϕ z = atℤ D (indexOf (g .node) z)
-
-    ϕ-least : (z : ℕ) → Reachable step start z → Steps.Potential step start p q z (ϕ z)
+    ϕ-least : (z : ℕ) → Reachable step start z → Steps.Potential step start p q z (ϕ g D z)
     ϕ-least z r =
-        let k = listed step start g x z r in
+        let k = listed x z r in
         let f = first-at (g .node) z (k .index) (k .is) in
         let l : indexOf (g .node) z < g .n = omega (arith, f .first, k .below) in
-        subst (λ (u : ℕ). Steps.Potential step start p q u (ϕ z)) (f .is)
-        (potential step start g x p q (indexOf (g .node) z) (ϕ z) l (least (indexOf (g .node) z) l .0))
+        subst (λ (u : ℕ). Steps.Potential step start p q u (ϕ g D z)) (f .is)
+        (potential x p q (indexOf (g .node) z) (ϕ g D z) l (least (indexOf (g .node) z) l .0))
 
-    pub feasible : Feasible step start p q ϕ
-    feasible = least-feasible step start p q ϕ ϕ-least
+    pub feasible : Feasible step start p q (ϕ g D)
+    feasible = least-feasible step start p q (ϕ g D) ϕ-least
 
   -- a reachable cycle earns, where none is idle
   pub earns : ¬ IdleCycle step start → (c : ℤ) (r : ℕ) → ReachableCycle step start c r → 0 < r

@@ -54,7 +54,7 @@ pub record CycleOf (g : Found) (c : ℤ) (r : ℕ) : Type 0 where
   pub cost : costOf g arcs ≡ c
   pub reward : rewardOf g arcs ≡ r
 
-module _ (step : ℕ → ℕ → Option (Priced ℕ)) (start : ℕ) (g : Found) (x : Explored step start g) where
+module _ {step : ℕ → ℕ → Option (Priced ℕ)} {start : ℕ} {g : Found} (x : Explored step start g) where
   taken : (a code : ℕ) (v : Priced ℕ) → a < g .n → step (at (g .node) a) code ≡ some v → Taken g a code v
   taken a code v h e = let t = x .complete a code v h e in record {
     arc = t .arc;

@@ -80,19 +80,19 @@ module _ (bytes : List ℕ) (b : Buffers) where
 
       module _ (g : Found) (x : Explored (stepOn bytes) (startOf bytes) g) where
         few : ¬ TooMany (stepOn bytes) (startOf bytes)
-        few = Counts.few-listed (stepOn bytes) (startOf bytes) (g .node) (g .n) (x .few) (Arcs.listed (stepOn bytes) (startOf bytes) g x)
+        few = Counts.few-listed (stepOn bytes) (startOf bytes) (g .node) (g .n) (x .few) (Arcs.listed x)
 
         -- question 13: the search with weight13 ended with potentials
         pub no-cycle-reachable : NoneNegative (g .from) (g .to) (g .m) (weight13 g) → Planned bytes b (zeros b) (refused 13)
         no-cycle-reachable none = set-to-zero bytes b 13 (omega arith)
-            (explored long checked (no-cycle refl few (Searches.no-cycle (stepOn bytes) (startOf bytes) g x none)))
+            (explored long checked (no-cycle refl few (Searches.no-cycle x none)))
 
         -- question 14: the search with weight14 found a cycle, of at most n arcs
         pub cycle-earns-nothing : (l : List ℕ) → NegativeCycle (g .from) (g .to) (g .m) (weight14 g) l → length l ≤ g .n
             → Planned bytes b (zeros b) (refused 14)
         cycle-earns-nothing l o h = set-to-zero bytes b 14 (omega arith) (explored long checked (idle-cycle refl few
-            (Searches.some-cycle (stepOn bytes) (startOf bytes) g x (weight14 g) l o)
-            (Searches.idle-cycle (stepOn bytes) (startOf bytes) g x l o (omega (arith, x .few)))))
+            (Searches.some-cycle x (weight14 g) l o)
+            (Searches.idle-cycle x l o (omega (arith, x .few)))))
 
 -- accepted
 module _ (bytes : List ℕ) (before after : Buffers) (g : Found) (p : ℤ) (q : ℕ) (D : List ℤ) (order stem cycle : List ℕ)
@@ -107,32 +107,28 @@ module _ (bytes : List ℕ) (before after : Buffers) (g : Found) (p : ℤ) (q : 
   x = h .explored
 
   reachable-cycle : ReachableCycle step start (Arcs.costOf g cycle) (Arcs.rewardOf g cycle)
-  reachable-cycle = Arcs.cycle-steps step start g x (h .lasso .hub) cycle
+  reachable-cycle = Arcs.cycle-steps x (h .lasso .hub) cycle
       (record { path = stem; walk = h .lasso .stem }) (record { some = h .lasso .some; walk = h .lasso .cycle })
 
   none-idle : ¬ IdleCycle step start
-  none-idle = Searches.none-idle step start g x (h .none-idle)
+  none-idle = Searches.none-idle x (h .none-idle)
 
   earns : 0 < Arcs.rewardOf g cycle
-  earns = Accepting.earns step start g x none-idle (Arcs.costOf g cycle) (Arcs.rewardOf g cycle) reachable-cycle
+  earns = Accepting.earns x none-idle (Arcs.costOf g cycle) (Arcs.rewardOf g cycle) reachable-cycle
 
   short : length stem + length cycle ≤ g .n
-  short = Lassos.short step start g x stem cycle (h .lasso)
+  short = Lassos.short x stem cycle (h .lasso)
 
-  -- the potentials on node numbers
-  abbrev ϕ : ℕ → ℤ
-  ϕ = Accepting.ϕ step start g x p q D (h .potentials)
-
-  feasible : Feasible step start p q ϕ
-  feasible = Accepting.feasible step start g x p q D (h .potentials)
+  feasible : Feasible step start p q (Accepting.ϕ g D)
+  feasible = Accepting.feasible x p q D (h .potentials)
 
   plan-accepted : Accepted step start p q (g .n) (length stem) (length cycle) (after .nodes) (after .potentials) (after .steps)
   plan-accepted = record {
-    ratio = least-ratio step start p q ϕ feasible (h .lowest) (Arcs.costOf g cycle) (Arcs.rewardOf g cycle) reachable-cycle earns (h .exact);
-    node-list = Accepting.node-list step start g x order (after .nodes) (h .sorted) (h .nodes-rest);
-    potential-list = Accepting.potential-list step start g x p q D (h .potentials) order (after .nodes) (h .sorted)
+    ratio = least-ratio step start p q (Accepting.ϕ g D) feasible (h .lowest) (Arcs.costOf g cycle) (Arcs.rewardOf g cycle) reachable-cycle earns (h .exact);
+    node-list = Accepting.node-list x order (after .nodes) (h .sorted) (h .nodes-rest);
+    potential-list = Accepting.potential-list x p q D (h .potentials) order (after .nodes) (h .sorted)
         (after .potentials) (h .permuted) (h .potentials-rest);
-    lasso = Lassos.lasso-steps step start g x stem cycle (h .lasso) (after .steps)
+    lasso = Lassos.lasso-steps x stem cycle (h .lasso) (after .steps)
         (omega (arith, short, x .few, h .long .steps, h .lengths .steps)) (h .codes) p q earns (h .exact) (h .steps-rest);
     short = short;
   }
@@ -140,12 +136,13 @@ module _ (bytes : List ℕ) (before after : Buffers) (g : Found) (p : ℤ) (q : 
   pub accepted : Planned bytes before after (record { refusal = 0; p = p; q = q; n = g .n; s = length stem; m = length cycle })
   accepted = record {
     judged = explored (h .long) (h .checked) (all-yes refl
-        (Counts.few-listed step start (g .node) (g .n) (x .few) (Arcs.listed step start g x))
+        (Counts.few-listed step start (g .node) (g .n) (x .few) (Arcs.listed x))
         (record { cost = Arcs.costOf g cycle; reward = Arcs.rewardOf g cycle; cycle = reachable-cycle }) none-idle);
     numbers = λ k. absurd (omega arith);
     kept = λ k l. absurd (omega arith);
     cleared = λ k. absurd (omega arith);
     lengths = h .lengths;
     accepted = λ e. plan-accepted;
-    no-loop-below = λ e. no-loop-below-numbers (layoutOf bytes) (meaning bytes) (room bytes (h .checked)) (sound bytes (h .checked)) p q ϕ feasible;
+    no-loop-below = λ e. no-loop-below-numbers (layoutOf bytes) (meaning bytes) (room bytes (h .checked)) (sound bytes (h .checked)) p q
+        (Accepting.ϕ g D) feasible;
   }

@@ -36,7 +36,7 @@ front-walk F T m a [] b i w h = absurd (omega arith)
 front-walk F T m a (e ∷ l) b zero w h = sym (w .1)
 front-walk F T m a (e ∷ l) b (suc i) w h = (w .0, w .1, front-walk F T m (at T e) l b i (w .2) (le-of-suc-le-suc h))
 
-module _ (step : ℕ → ℕ → Option (Priced ℕ)) (start : ℕ) (g : Found) (x : Explored step start g) (stem cycle : List ℕ)
+module _ {step : ℕ → ℕ → Option (Priced ℕ)} {start : ℕ} {g : Found} (x : Explored step start g) (stem cycle : List ℕ)
     (o : Arcs.Lasso (g .from) (g .to) (g .m) stem cycle) where
   abbrev arcs : List ℕ
   arcs = stem ++ cycle
@@ -71,7 +71,7 @@ module _ (step : ℕ → ℕ → Option (Priced ℕ)) (start : ℕ) (g : Found) 
     -- and they lead to where arc i begins
     leads : (i : ℕ) → i < size → (z : ℕ) (c : ℤ) (r : ℕ) → Walk step start (take i steps) z c r → z ≡ at (g .node) (at (g .from) (at arcs i))
     leads i h z c r w =
-        let v = start-walk step start g x (take i arcs) (at (g .from) (at arcs i))
+        let v = start-walk x (take i arcs) (at (g .from) (at arcs i))
         (front-walk (g .from) (g .to) (g .m) 0 arcs (o .hub) i whole (omega (arith, all))) in
         ap (λ (u : Priced ℕ). u .to) (some-inj (sym (w .walks) ∙ ap (chain step start) (front i (omega arith)) ∙ v .walks))
 
@@ -89,11 +89,11 @@ module _ (step : ℕ → ℕ → Option (Priced ℕ)) (start : ℕ) (g : Found) 
       node = at (g .node) (o .hub);
       stem-cost = costOf g stem;
       stem-reward = rewardOf g stem;
-      stem = rw stem-codes (start-walk step start g x stem (o .hub) (o .stem));
+      stem = rw stem-codes (start-walk x stem (o .hub) (o .stem));
       some-step = o .some;
       cost = costOf g cycle;
       reward = rewardOf g cycle;
-      cycle = rw cycle-codes (walk-of step start g x (o .hub) cycle (o .hub) (o .cycle));
+      cycle = rw cycle-codes (walk-of x (o .hub) cycle (o .hub) (o .cycle));
       simple = λ i j h l z c d r t u v. (let e : i ≡ j = o .simple i j (omega (arith, all)) (omega (arith, all))
           (x .distinct (at (g .from) (at arcs i)) (at (g .from) (at arcs j)) (source-below i (omega arith)) (source-below j l)
           (sym (leads i (omega arith) z c r u) ∙ leads j l z d t v)) in omega arith);

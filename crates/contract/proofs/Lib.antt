@@ -9,3 +9,6 @@ pub mod Checks
 pub mod Exits
 pub mod DecodedSheets
 pub mod Graphs
+pub mod JustWhen
+pub mod Rising
+pub mod Unique

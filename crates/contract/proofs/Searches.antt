@@ -71,11 +71,11 @@ weighed p q g l = weight-sum (pos q) (negℤ p) (pos 0) (g .cost) (g .reward) l
     ∙ ap (λ (z : ℤ). pos q *ℤ costOf g l +ℤ z) (neg-times p (pos (rewardOf g l)))
 
 -- ---- questions 13 and 14
-module _ (step : ℕ → ℕ → Option (Priced ℕ)) (start : ℕ) (g : Found) (x : Explored step start g) where
+module _ {step : ℕ → ℕ → Option (Priced ℕ)} {start : ℕ} {g : Found} (x : Explored step start g) where
   -- where no cycle is negative, b times the reward of each is at least its length
   none-counted : (b : ℕ) → NoneNegative (g .from) (g .to) (g .m) (counted b g) → (c : ℤ) (r : ℕ) → ReachableCycle step start c r → 0 < b * r
   none-counted b none c r o =
-      let k : CycleOf g c r = cycle-arcs step start g x c r o in
+      let k : CycleOf g c r = cycle-arcs x c r o in
       omega (
         arith,
         counted-sum b g (k .arcs),
@@ -92,12 +92,12 @@ module _ (step : ℕ → ℕ → Option (Priced ℕ)) (start : ℕ) (g : Found) 
 
   -- a cycle that a search found, whatever its weight
   pub some-cycle : (w : ℕ → ℤ) (l : List ℕ) → NegativeCycle (g .from) (g .to) (g .m) w l → SomeCycle step start
-  some-cycle w l o = record { cost = costOf g l; reward = rewardOf g l; cycle = cycle-steps step start g x (o .hub) l (o .reached) (o .cycle) }
+  some-cycle w l o = record { cost = costOf g l; reward = rewardOf g l; cycle = cycle-steps x (o .hub) l (o .reached) (o .cycle) }
 
   pub idle-cycle : (l : List ℕ) → NegativeCycle (g .from) (g .to) (g .m) (weight14 g) l → length l ≤ 2048 → IdleCycle step start
   idle-cycle l o short =
       let e : rewardOf g l ≡ 0 = omega (arith, counted-sum 2049 g l, lt-parts (sum (weight14 g) l) (pos 0) (o .negative)) in
-      record { cost = costOf g l; cycle = subst (ReachableCycle step start (costOf g l)) e (cycle-steps step start g x (o .hub) l (o .reached) (o .cycle)) }
+      record { cost = costOf g l; cycle = subst (ReachableCycle step start (costOf g l)) e (cycle-steps x (o .hub) l (o .reached) (o .cycle)) }
 
   -- ---- least weights are potentials
   pub potential : (p : ℤ) (q v : ℕ) (z : ℤ) → v < g .n → LeastWeight (g .from) (g .to) (g .m) (weightAt p q g) v z
@@ -106,9 +106,9 @@ module _ (step : ℕ → ℕ → Option (Priced ℕ)) (start : ℕ) (g : Found) 
     codes = codesOf g (o .path);
     cost = costOf g (o .path);
     reward = rewardOf g (o .path);
-    walk = start-walk step start g x (o .path) v (o .walk);
+    walk = start-walk x (o .path) v (o .walk);
     attained = sym (weighed p q g (o .path)) ∙ o .weighs;
-    least = λ l c r w. (let k : Route g 0 l (at (g .node) v) c r = start-route step start g x l (at (g .node) v) c r w in
+    least = λ l c r w. (let k : Route g 0 l (at (g .node) v) c r = start-route x l (at (g .node) v) c r w in
         subst (λ (y : ℤ). z ≤ℤ y) (weighed p q g (k .arcs) ∙ ap₂ (weight p q) (k .cost) (k .reward))
         (o .least (k .arcs) (subst (Graph.Walk (g .from) (g .to) (g .m) 0 (k .arcs)) (x .distinct (k .end) v (k .below) h (k .is)) (k .walk))));
   }
