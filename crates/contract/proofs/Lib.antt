@@ -12,3 +12,4 @@ pub mod Graphs
 pub mod JustWhen
 pub mod Rising
 pub mod Unique
+pub mod StarredCertificates
