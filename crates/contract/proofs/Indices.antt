@@ -2,10 +2,11 @@
 use mathlib.Core.Path.{_≡_, ap, _∙_}
 use mathlib.Core.Bool.{Bool, true, false, cond}
 use mathlib.Core.List.{List, [], _∷_}
-use Prim.Native.Nat.{ℕ, zero, suc, _≤_}
+use Prim.Native.Nat.{ℕ, zero, suc, _≤_, _<_}
 use native.Mathlib.Omega.{arith}
 use borrow.Author.Tests.{eqb-true, eqb-false}
 use lib.Dec.{eqb}
+use lib.ListN.{length}
 use Rattle.automaton.proofs.Tests.{by-bool}
 use Rattle.walks.specs.Walk.{at}
 use Rattle.contract.specs.Certificate.{indexOf}
@@ -33,3 +34,10 @@ first-at [] x i e = record { first = unfold indexOf in omega arith; is = e }
 first-at (z ∷ l) x i e = by-bool (eqb z x)
     (λ t. let k = hit z l x t in record { first = omega arith; is = ap (at (z ∷ l)) k ∙ eqb-true z x t })
     (later z l x i (first-at l x) e)
+
+-- a place before the end is the place of x
+pub index-is : (l : List ℕ) (x : ℕ) → indexOf l x < length l → at l (indexOf l x) ≡ x
+index-is [] x h = absurd (omega arith)
+index-is (z ∷ l) x h = by-bool (eqb z x)
+    (λ t. ap (at (z ∷ l)) (hit z l x t) ∙ eqb-true z x t)
+    (λ f. let k = miss z l x f in ap (at (z ∷ l)) k ∙ index-is l x (omega arith))

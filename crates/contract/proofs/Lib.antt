@@ -12,4 +12,6 @@ pub mod Graphs
 pub mod JustWhen
 pub mod Rising
 pub mod Unique
-pub mod StarredCertificates
+pub mod Certified
+pub mod Certificates
+pub mod ChangesHold

@@ -1,10 +1,11 @@
 -- What the rules say of a sheet, lent buffers long enough: the refusal, or the ratio and the number of reachable nodes.
+use mathlib.Core.Path.{_≡_}
 use mathlib.Core.List.{List}
 use Prim.Native.Nat.{ℕ, _<_}
 use lib.IntN.{ℤ}
 use Rattle.automaton.specs.Ratios.{LeastRatio}
 use Rattle.contract.specs.Accepted.{NodeList}
-use Rattle.contract.specs.Plan.{Buffers, LongEnough, stepOn, startOf, Judged}
+use Rattle.contract.specs.Plan.{Answer, refused, Buffers, LongEnough, stepOn, startOf, Judged}
 
 pub data Says : Type 0 where
   accepts : (p : ℤ) (q n : ℕ) → Says
@@ -24,3 +25,8 @@ pub record RefusedAs (bytes : List ℕ) (refusal : ℕ) : Type 0 where
 abbrev pub Holds : List ℕ → Says → Type 0
 Holds bytes (accepts p q n) = AcceptedAs bytes p q n
 Holds bytes (refuses refusal) = RefusedAs bytes refusal
+
+-- an answer of `plan` that says so
+abbrev pub Given : Says → Answer → Type 0
+Given (accepts p q n) a = (a .refusal ≡ 0) × (a .p ≡ p) × (a .q ≡ q) × (a .n ≡ n)
+Given (refuses refusal) a = a ≡ refused refusal

@@ -27,6 +27,10 @@ pub record Certificate : Type 0 where
   -- walks from the start that pass every listed node
   pub walks : List (List ℕ)
 
+unfoldable pub allTrue : List Bool → Bool
+allTrue [] = true
+allTrue (b ∷ l) = b && allTrue l
+
 -- the first place of x in a list, or the list's length where x is not in it
 unfoldable pub indexOf : List ℕ → ℕ → ℕ
 indexOf [] x = 0
@@ -40,11 +44,11 @@ rises l = each (length l - 1) (λ i. ltb (at l i) (at l (suc i)))
 
 -- "in lowest terms with q ≥ 1": no number up to q but 1 divides both
 unfoldable pub isLowest : ℤ → ℕ → Bool
-isLowest p q = ltb 0 q && each (suc q) (λ d. eqb d 1 || not (eqb (natAbs p % d) 0 && eqb (q % d) 0))
+isLowest p q = allTrue (ltb 0 q ∷ each (suc q) (λ d. eqb d 1 || not (eqb (natAbs p % d) 0 && eqb (q % d) 0)) ∷ [])
 
 -- a cycle with this cost and reward earns, and has the ratio p/q
 abbrev pub hasRatio : ℤ → ℕ → ℤ → ℕ → Bool
-hasRatio p q c r = ltb 0 r && (leZ (pos q *ℤ c) (p *ℤ pos r) && leZ (p *ℤ pos r) (pos q *ℤ c))
+hasRatio p q c r = allTrue (ltb 0 r ∷ leZ (pos q *ℤ c) (p *ℤ pos r) ∷ leZ (p *ℤ pos r) (pos q *ℤ c) ∷ [])
 
 -- does a step that is allowed pass the test?
 abbrev pub ifAllowed : (Priced ℕ → Bool) → Option (Priced ℕ) → Bool
@@ -68,7 +72,7 @@ module _ (step : ℕ → ℕ → Option (Priced ℕ)) (start : ℕ) where
 
   -- the list rises, has at most 2,048 entries, and holds the start and every successor of its members
   unfoldable pub holdsAll : List ℕ → Bool
-  holdsAll nodes = rises nodes && (leb (length nodes) 2048 && (lists nodes start && eachStep nodes (λ i v. lists nodes (v .to))))
+  holdsAll nodes = allTrue (rises nodes ∷ leb (length nodes) 2048 ∷ lists nodes start ∷ eachStep nodes (λ i v. lists nodes (v .to)) ∷ [])
 
   -- no step leads to a potential above the node's plus the step's weight
   unfoldable pub keeps : ℤ → ℕ → List ℕ → List ℤ → Bool
@@ -81,8 +85,11 @@ module _ (step : ℕ → ℕ → Option (Priced ℕ)) (start : ℕ) where
 
   -- the stem is walked from the start, and the cycle from there back; the cycle's cost and reward pass the test
   unfoldable pub isLasso : (ℤ → ℕ → Bool) → List ℕ → List ℕ → Bool
-  isLasso t stem cycle = ltb 0 (length cycle)
-      && isAllowed (λ u. isAllowed (λ v. eqb (v .to) (u .to) && t (v .cost) (v .reward)) (chain step (u .to) cycle)) (chain step start stem)
+  isLasso t stem cycle = allTrue (
+      ltb 0 (length cycle)
+      ∷ isAllowed (λ u. isAllowed (λ v. allTrue (eqb (v .to) (u .to) ∷ t (v .cost) (v .reward) ∷ [])) (chain step (u .to) cycle)) (chain step start stem)
+      ∷ []
+      )
 
   -- the nodes that a walk from x passes
   unfoldable pub passed : List ℕ → ℕ → List ℕ
@@ -96,16 +103,26 @@ module _ (step : ℕ → ℕ → Option (Priced ℕ)) (start : ℕ) where
 
   -- accepted, with the ratio p/q and n nodes
   unfoldable pub showsAccepted : ℤ → ℕ → ℕ → Certificate → Bool
-  showsAccepted p q n c = holdsAll (c .nodes) && (eqb (length (c .nodes)) n && (every (λ i. isPassed (c .walks)) (c .nodes)
-      && (isLowest p q && (keeps p q (c .nodes) (c .potentials) && (isLasso (hasRatio p q) (c .stem) (c .cycle)
-      && falls (λ r. eqb r 0) (c .nodes) (c .ranks))))))
+  showsAccepted p q n c = allTrue (
+      holdsAll (c .nodes)
+      ∷ eqb (length (c .nodes)) n
+      ∷ every (λ i. isPassed (c .walks)) (c .nodes)
+      ∷ isLowest p q
+      ∷ keeps p q (c .nodes) (c .potentials)
+      ∷ isLasso (hasRatio p q) (c .stem) (c .cycle)
+      ∷ falls (λ r. eqb r 0) (c .nodes) (c .ranks)
+      ∷ []
+      )
 
   -- 13: the ranks fall along every step; 14: the lasso's cycle earns nothing
   unfoldable pub showsRefused : ℕ → Certificate → Bool
-  showsRefused refusal c = holdsAll (c .nodes)
-      && ((eqb refusal 13 && falls (λ r. true) (c .nodes) (c .ranks)) || (eqb refusal 14 && isLasso (λ cost r. eqb r 0) (c .stem) (c .cycle)))
+  showsRefused refusal c = allTrue (
+      holdsAll (c .nodes)
+      ∷ ((eqb refusal 13 && falls (λ r. true) (c .nodes) (c .ranks)) || (eqb refusal 14 && isLasso (λ cost r. eqb r 0) (c .stem) (c .cycle)))
+      ∷ []
+      )
 
 -- where the check refuses the sheet, no certificate is needed
 unfoldable pub certifies : List ℕ → Says → Certificate → Bool
-certifies bytes (accepts p q n) c = eqb (checkOf bytes) 0 && showsAccepted (stepOn bytes) (startOf bytes) p q n c
+certifies bytes (accepts p q n) c = allTrue (eqb (checkOf bytes) 0 ∷ showsAccepted (stepOn bytes) (startOf bytes) p q n c ∷ [])
 certifies bytes (refuses refusal) c = cond (eqb (checkOf bytes) 0) (showsRefused (stepOn bytes) (startOf bytes) refusal c) (eqb refusal (checkOf bytes))

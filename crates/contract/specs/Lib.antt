@@ -4,4 +4,4 @@ pub mod Plan
 pub mod Explored
 pub mod Answers
 pub mod Certificate
-pub mod Starred
+pub mod Changes

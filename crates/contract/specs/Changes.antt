@@ -1,4 +1,4 @@
--- 01's table of changes to Bench: each sheet and what a plan answers.
+-- Bench and the changes to it: each sheet and what a plan answers, lent buffers long enough.
 use mathlib.Core.List.{List, [], _∷_, _++_}
 use Prim.Native.Nat.{ℕ}
 use lib.IntN.{pos, negsuc}
@@ -41,10 +41,10 @@ withCost low high s = set (set s 12 low) 13 high
 abbrev pub row : List ℕ → Says → Row
 row s a = record { bytes = s; says = a }
 
--- "* marks the cases to be proved"
-unfoldable pub starred : List Row
-starred =
-    -- as given
+-- "Changes to Bench (* marks the cases to be proved; where a field or record comes or goes, its map and E follow)"
+unfoldable pub changes : List Row
+changes =
+    -- those with a mark: as given
     row bench (accepts (pos 3) 1 7)
     -- lower byte 03
     ∷ row (withLower 3 bench) (accepts (pos 3) 1 7)
@@ -66,7 +66,7 @@ starred =
     ∷ row (bench ++ 0 ∷ []) (refuses 10)
     -- a byte less
     ∷ row (take 17 bench) (refuses 5)
-    -- those without a mark: bounds 19 and 1A
+    -- and those without: bounds 19 and 1A
     ∷ row (withBound 25 bench) (accepts (pos 3) 1 37)
     ∷ row (withBound 26 bench) (refuses 8)
     -- bound 03 with lower byte 03

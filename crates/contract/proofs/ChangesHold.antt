@@ -1,8 +1,8 @@
--- A certificate for each row of the table, and one computation that tests them all.
+-- Every row of the table of changes to Bench holds: a certificate for each, and one computation that tests them all.
 use mathlib.Core.Path.{_≡_, refl}
 use mathlib.Core.Bool.{Bool, true, false, _&&_}
 use mathlib.Core.List.{List, [], _∷_, zipWith}
-use Prim.Native.Nat.{ℕ, zero, suc, _+_, _*_, _-_}
+use Prim.Native.Nat.{ℕ, zero, suc, _+_, _*_}
 use lib.IntN.{ℤ, pos}
 use lib.ListN.{take}
 use Rattle.automaton.specs.Tests.{every}
@@ -12,6 +12,7 @@ use Rattle.automaton.specs.Priced.{chain}
 use Rattle.automaton.specs.Nodes.{startNode}
 use Rattle.automaton.specs.Steps.{edgeStep, unitStep, moveStep, step}
 use Rattle.automaton.specs.Weights.{weight}
+use Rattle.automaton.proofs.Tests.{&&-left, &&-right, clash}
 use Rattle.sheet.specs.Bytes.{signedOf}
 use Rattle.sheet.specs.Maps.{placeOf}
 use Rattle.sheet.specs.Fields.{fieldOf, permittedField, costInRange, inRange}
@@ -20,9 +21,10 @@ use Rattle.sheet.specs.Questions.{each, firstOf, bitGood, mapCode, fieldGood, f
 use Rattle.sheet.specs.Questions.{startCode, recordsCode, checkOf}
 use Rattle.nodes.specs.Numbers.{clocksFrom, number, listFrom, nodeOf, stepBy}
 use Rattle.nodes.specs.Meaning.{meaning}
-use Rattle.contract.specs.Certificate.{Certificate, indexOf, rises, isLowest, eachStep, holdsAll, keeps, falls, isLasso, passed, isPassed}
+use Rattle.contract.specs.Certificate.{Certificate, allTrue, indexOf, rises, isLowest, eachStep, holdsAll, keeps, falls, isLasso, passed, isPassed}
 use Rattle.contract.specs.Certificate.{showsAccepted, showsRefused, certifies}
-use Rattle.contract.specs.Starred.{Row, starred}
+use Rattle.contract.proofs.Certificates.{certified}
+use Rattle.contract.specs.Changes.{Row, AllHold, changes}
 
 -- ---- the nodes of Bench, for whole parts from h on and k units more: at h, and strictly between h and h + 1 at the corners 0 and 1
 
@@ -83,15 +85,28 @@ certificates = climbing 7 2 1 (33 ∷ 32 ∷ 33 ∷ 0 ∷ [])
     ∷ []
 
 -- each row has its certificate
-pub allCertified : List Row → List Certificate → Bool
+allCertified : List Row → List Certificate → Bool
 allCertified [] cs = true
 allCertified (r ∷ rows) [] = false
 allCertified (r ∷ rows) (c ∷ cs) = certifies (r .bytes) (r .says) c && allCertified rows cs
 
-computed : allCertified starred certificates ≡ true
-unfolding allCertified certificates ladder heights left upward starred certifies showsAccepted showsRefused isPassed passed isLasso falls keeps holdsAll eachStep isLowest rises indexOf
+computed : allCertified changes certificates ≡ true
+unfolding allCertified certificates ladder heights left upward changes certifies showsAccepted showsRefused isPassed passed isLasso falls keeps holdsAll eachStep isLowest rises indexOf allTrue
     meaning stepBy nodeOf listFrom number clocksFrom
     checkOf recordsCode startCode edgeCode locationCode endsCode boundsCode fieldsCode fieldGood mapCode bitGood firstOf each
     recordAt recordLength fieldAt valueAt fieldPlace inRange costInRange permittedField fieldOf placeOf signedOf
     weight step moveStep unitStep edgeStep startNode chain inGuards inBounds largest mask closeUp rank every zipWith
 computed = refl
+
+all-hold : (rows : List Row) (cs : List Certificate) → allCertified rows cs ≡ true → AllHold rows
+unfolding allCertified AllHold
+all-hold [] cs h = tt
+all-hold (r ∷ rows) [] h = clash h refl
+all-hold (r ∷ rows) (c ∷ cs) h = (
+  certified (r .bytes) (r .says) c (&&-left (certifies (r .bytes) (r .says) c) (allCertified rows cs) h),
+  all-hold rows cs (&&-right (certifies (r .bytes) (r .says) c) (allCertified rows cs) h),
+)
+
+-- the lone theorem about the rules
+pub changes-hold : AllHold changes
+changes-hold = all-hold changes certificates computed
