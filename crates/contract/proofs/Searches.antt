@@ -71,6 +71,13 @@ weighed p q g l = weight-sum (pos q) (negℤ p) (pos 0) (g .cost) (g .reward) l
     ∙ ap (λ (z : ℤ). pos q *ℤ costOf g l +ℤ z) (neg-times p (pos (rewardOf g l)))
 
 -- ---- questions 13 and 14
+
+-- where question 14's search found no cycle, each cycle of arcs that is reached earns
+pub cycle-earns : (g : Found) → NoneNegative (g .from) (g .to) (g .m) (weight14 g) → (v : ℕ) (l : List ℕ) → Graph.Reached (g .from) (g .to) (g .m) v
+    → Graph.Cycle (g .from) (g .to) (g .m) v l → 0 < rewardOf g l
+cycle-earns g none v l r c =
+    omega (arith, counted-sum 2049 g l, le-parts (pos 0) (sum (weight14 g) l) (none v l r c), c .some)
+
 module _ {step : ℕ → ℕ → Option (Priced ℕ)} {start : ℕ} {g : Found} (x : Explored step start g) where
   -- where no cycle is negative, b times the reward of each is at least its length
   none-counted : (b : ℕ) → NoneNegative (g .from) (g .to) (g .m) (counted b g) → (c : ℤ) (r : ℕ) → ReachableCycle step start c r → 0 < b * r

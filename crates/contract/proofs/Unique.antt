@@ -16,17 +16,9 @@ use Rattle.automaton.proofs.Ratios.{ratio-unique}
 use Rattle.walks.specs.Walk.{at, atℤ}
 use Rattle.contract.specs.Accepted.{Accepted}
 use Rattle.contract.specs.Plan.{Answer, refused, Buffers, SameLengths, Planned}
+use Rattle.contract.specs.Answers.{Agree}
 use Rattle.contract.proofs.JustWhen.{refusal-unique}
 use Rattle.contract.proofs.Rising.{same-count, same-entry}
-
--- what two answers agree in
-pub record Agree (after after' : Buffers) (a a' : Answer) : Type 0 where
-  pub refusal : a .refusal ≡ a' .refusal
-  pub p : a .p ≡ a' .p
-  pub q : a .q ≡ a' .q
-  pub n : a .n ≡ a' .n
-  pub nodes : (i : ℕ) → i < a .n → at (after .nodes) i ≡ at (after' .nodes) i
-  pub potentials : (i : ℕ) → i < a .n → atℤ (after .potentials) i ≡ atℤ (after' .potentials) i
 
 -- ---- accepted
 module _ {step : ℕ → ℕ → Option (Priced ℕ)} {start : ℕ} {p p' : ℤ} {q q' n n' s s' m m' : ℕ} {N N' : List ℕ} {P P' : List ℤ} {S S' : List ℕ}

@@ -85,11 +85,10 @@ module _ (step : ℕ → ℕ → Option (Priced ℕ)) (start : ℕ) where
 
   -- the stem is walked from the start, and the cycle from there back; the cycle's cost and reward pass the test
   unfoldable pub isLasso : (ℤ → ℕ → Bool) → List ℕ → List ℕ → Bool
-  isLasso t stem cycle = allTrue (
-      ltb 0 (length cycle)
+  isLasso t stem cycle = allTrue
+      (ltb 0 (length cycle)
       ∷ isAllowed (λ u. isAllowed (λ v. allTrue (eqb (v .to) (u .to) ∷ t (v .cost) (v .reward) ∷ [])) (chain step (u .to) cycle)) (chain step start stem)
-      ∷ []
-      )
+      ∷ [])
 
   -- the nodes that a walk from x passes
   unfoldable pub passed : List ℕ → ℕ → List ℕ
@@ -103,24 +102,22 @@ module _ (step : ℕ → ℕ → Option (Priced ℕ)) (start : ℕ) where
 
   -- accepted, with the ratio p/q and n nodes
   unfoldable pub showsAccepted : ℤ → ℕ → ℕ → Certificate → Bool
-  showsAccepted p q n c = allTrue (
-      holdsAll (c .nodes)
+  showsAccepted p q n c = allTrue
+      (holdsAll (c .nodes)
       ∷ eqb (length (c .nodes)) n
       ∷ every (λ i. isPassed (c .walks)) (c .nodes)
       ∷ isLowest p q
       ∷ keeps p q (c .nodes) (c .potentials)
       ∷ isLasso (hasRatio p q) (c .stem) (c .cycle)
       ∷ falls (λ r. eqb r 0) (c .nodes) (c .ranks)
-      ∷ []
-      )
+      ∷ [])
 
   -- 13: the ranks fall along every step; 14: the lasso's cycle earns nothing
   unfoldable pub showsRefused : ℕ → Certificate → Bool
-  showsRefused refusal c = allTrue (
-      holdsAll (c .nodes)
+  showsRefused refusal c = allTrue
+      (holdsAll (c .nodes)
       ∷ ((eqb refusal 13 && falls (λ r. true) (c .nodes) (c .ranks)) || (eqb refusal 14 && isLasso (λ cost r. eqb r 0) (c .stem) (c .cycle)))
-      ∷ []
-      )
+      ∷ [])
 
 -- where the check refuses the sheet, no certificate is needed
 unfoldable pub certifies : List ℕ → Says → Certificate → Bool
