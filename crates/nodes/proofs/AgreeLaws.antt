@@ -1,19 +1,18 @@
 -- Two automata that agree in their locations, clocks and edges have the same nodes and the same steps.
 use mathlib.Core.Path.{_≡_, refl, sym, ap, ap₂, _∙_}
 use mathlib.Core.Bool.{Bool, true, false, cond, _&&_, not}
-use mathlib.Core.List.{List, [], _∷_, map}
-use mathlib.Core.Option.{Option, none, some, Option·map}
+use mathlib.Core.List.{List, [], _∷_}
+use mathlib.Core.Option.{Option, none, Option·map}
 use Prim.Native.Nat.{ℕ, suc, _<_}
 use native.Mathlib.Omega.{arith}
-use borrow.Author.Tests.{ltb-true, lt-ltb}
+use borrow.Author.Tests.{ltb-true}
 use lib.Dec.{leb, ltb, eqb}
-use lib.IntN.{ℤ}
 use lib.ListN.{length, length-map}
 use Rattle.automaton.specs.Tests.{only, every}
 use Rattle.automaton.specs.Bounds.{interval, upperHolds, lowerHolds, ifPresent}
 use Rattle.automaton.specs.Ranks.{rank, closeUp, mask}
 use Rattle.automaton.specs.Automaton.{Automaton, inBounds, inGuards}
-use Rattle.automaton.specs.Priced.{Priced, free}
+use Rattle.automaton.specs.Priced.{free}
 use Rattle.automaton.specs.Nodes.{Region, Node, intervals, inside, largestClass, isNode, Sound}
 use Rattle.automaton.specs.Steps.{edgeTo, edgeAllowed, edgeStep, someWhole, unitTo, unitStep, riseTo, carryWhole, carryClass, carryTo, moveStep, step}
 use Rattle.automaton.proofs.Tests.{by-bool, same-test}
@@ -162,8 +161,8 @@ steps-agree A B a sound u code h = step-agree A B a sound u (proper-of A u h) co
 
 pub numbers-agree : (y : Layout) (A B : Automaton) → Agree A B → (x : ℕ) → isNumber y A x ≡ isNumber y B x
 unfolding isNumber
-numbers-agree y A B a x = ap₂ _&&_ (nodes-agree A B a (nodeOf y (A .clocks) x) ∙ ap (λ (k : ℕ). isNode B (nodeOf y k x)) (a .clocks))
-    (ap (λ (k : ℕ). eqb (number y (nodeOf y k x)) x) (a .clocks))
+numbers-agree y A B a x = ap₂ _&&_ (ap (λ (k : ℕ). eqb (number y (nodeOf y k x)) x) (a .clocks))
+    (nodes-agree A B a (nodeOf y (A .clocks) x) ∙ ap (λ (k : ℕ). isNode B (nodeOf y k x)) (a .clocks))
 
 pub number-steps-agree : (y : Layout) (A B : Automaton) → Agree A B → Sound A → (x code : ℕ) → isNode A (nodeOf y (A .clocks) x) ≡ true
     → stepBy y A x code ≡ stepBy y B x code

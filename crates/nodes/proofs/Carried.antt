@@ -5,8 +5,8 @@ use mathlib.Core.Option.{Option, none, some, Option·map}
 use Prim.Native.Nat.{ℕ}
 use native.Mathlib.Omega.{arith}
 use lib.IntN.{ℤ}
-use Rattle.automaton.specs.Priced.{Priced, free, joined, andThen, chain}
-use Rattle.automaton.specs.Walks.{Walk, Cycle, Reachable, ReachableCycle}
+use Rattle.automaton.specs.Priced.{Priced, joined, andThen, chain}
+use Rattle.automaton.specs.Walks.{Walk, Reachable, ReachableCycle}
 use Rattle.automaton.specs.Weights.{Feasible, Potential}
 use Rattle.automaton.proofs.Chains.{some-inj}
 use Rattle.automaton.proofs.Walks.{walk-holds}

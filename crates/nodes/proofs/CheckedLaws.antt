@@ -1,9 +1,9 @@
 -- A sheet that passes the check means an automaton that is sound, whose nodes have room in edition 1's numbers, and whose prices are small.
-use mathlib.Core.Path.{_≡_, refl, ap, subst, _∙_}
+use mathlib.Core.Path.{_≡_, refl, subst}
 use mathlib.Core.Bool.{Bool, true, _&&_, not}
 use mathlib.Core.List.{List, zipWith}
 use mathlib.Core.Option.{Option, none, some, Option·getD}
-use Prim.Native.Nat.{ℕ, zero, suc, _+_, _-_, _*_, _^_, _≤_, _<_}
+use Prim.Native.Nat.{ℕ, zero, suc, _+_, _-_, _≤_, _<_}
 use native.Mathlib.Omega.{arith}
 use borrow.Author.Tests.{ltb-true, leb-true, lt-ltb, ne-eqb}
 use lib.Dec.{leb, ltb, eqb}
@@ -11,14 +11,13 @@ use lib.IntN.{ℤ, natAbs}
 use lib.ListN.{length, replicate}
 use Rattle.automaton.specs.Tests.{every}
 use Rattle.automaton.specs.Bounds.{interval, upperHolds}
-use Rattle.automaton.specs.Automaton.{Automaton, inBounds}
+use Rattle.automaton.specs.Automaton.{inBounds}
 use Rattle.automaton.specs.Nodes.{startNode, Sound}
-use Rattle.automaton.proofs.Tests.{&&-left, &&-right, &&-intro}
+use Rattle.automaton.proofs.Tests.{&&-right, &&-intro}
 use Rattle.sheet.specs.Bytes.{byteAt, signedOf}
-use Rattle.sheet.specs.Maps.{stands}
-use Rattle.sheet.specs.Fields.{first, within, costInRange, inRange, fieldOf}
+use Rattle.sheet.specs.Fields.{first, costInRange, inRange, fieldOf}
 use Rattle.sheet.specs.Records.{fieldAt, boundAt, recordAt, locationAt, edgeAt, locationsIn, clocksIn, edgesIn}
-use Rattle.sheet.specs.Questions.{ask, each, firstOf, whereThere, fieldGood, mapCode, fieldsCode, boundsCode, endsCode, locationCode, edgeCode, startCode, recordsCode, checkOf}
+use Rattle.sheet.specs.Questions.{each, firstOf, whereThere, fieldGood, mapCode, fieldsCode, boundsCode, endsCode, locationCode, edgeCode, startCode, recordsCode, checkOf}
 use Rattle.sheet.specs.declared.fields.Kind.{Kind}
 use Rattle.sheet.specs.declared.fields.Kind.the-variants.{LocationRecord, EdgeRecord}
 use Rattle.sheet.specs.declared.fields.Field.the-variants.{Upper}

@@ -1,23 +1,24 @@
 -- A decoded sheet means what its bytes mean, and a step needs no more of it than the records at hand.
 use mathlib.Core.Path.{_≡_, refl, sym, ap, _∙_, subst}
-use mathlib.Core.Bool.{Bool, cond}
+use mathlib.Core.Bool.{Bool, true, false, cond, _&&_}
 use mathlib.Core.List.{List}
 use mathlib.Core.Option.{none, Option·getD, Option·map}
-use Prim.Native.Nat.{ℕ, zero, suc, _+_, min, _≤_, _<_}
-use native.Mathlib.Nat.{add-zero}
+use Prim.Native.Nat.{ℕ, zero, suc, _+_, _/_, _^_, _≤_, _<_}
+use native.Mathlib.Nat.{add-zero, mod-lt}
 use native.Mathlib.Omega.{arith}
 use borrow.Author.Tests.{eq-eqb, lt-ltb, lt-leb}
-use lib.Dec.{eqb}
-use lib.ListN.{getD}
-use Rattle.automaton.specs.Automaton.{Automaton, inBounds, inGuards}
-use Rattle.automaton.specs.Nodes.{Node}
+use lib.Dec.{leb, ltb, eqb, lit<}
+use lib.ListN.{length, getD}
+use Rattle.automaton.specs.Automaton.{inBounds, inGuards}
+use Rattle.automaton.specs.Ranks.{largest}
+use Rattle.automaton.specs.Nodes.{Node, usesEachRank, inside, isNode}
 use Rattle.automaton.specs.Steps.{edgeStep, unitStep, moveStep, step}
 use Rattle.automaton.proofs.Codes.{step-edge}
 use Rattle.sheet.specs.Maps.{stands}
 use Rattle.sheet.specs.Fields.{first}
 use Rattle.sheet.specs.Records.{fieldAt, recordAt, locationAt, edgeAt, locationsIn, clocksIn, edgesIn}
 use Rattle.sheet.specs.Questions.{checkOf}
-use Rattle.sheet.specs.Decoded.{filled, clockBytes, locationOf, edgeOf, blankLocation, blankEdge, locationsOf, edgesOf, decodedSheet, refusedSheet, readOf}
+use Rattle.sheet.specs.Decoded.{clockBytes, locationOf, edgeOf, blankLocation, blankEdge, locationsOf, edgesOf, decodedSheet, refusedSheet, readOf}
 use Rattle.sheet.specs.declared.fields.Kind.{Kind}
 use Rattle.sheet.specs.declared.fields.Kind.the-variants.{LocationRecord, EdgeRecord}
 use Rattle.sheet.specs.declared.Location.{Location}
@@ -25,14 +26,14 @@ use Rattle.sheet.specs.declared.Edge.{Edge}
 use Rattle.sheet.specs.declared.Sheet.{Sheet}
 use Rattle.sheet.proofs.AcceptedLaws.{header}
 use Rattle.sheet.proofs.DecodeLaws.{filled-at}
-use Rattle.nodes.specs.Numbers.{Layout, number, nodeOf, stepBy}
+use Rattle.nodes.specs.Numbers.{Layout, number, nodeOf, isNumber, stepBy}
 use Rattle.nodes.specs.Meaning.{meaning}
 use Rattle.nodes.specs.Decoded.{fewClocks, guardOf, boundIn, lowerIn, upperIn, locationIn, edgeIn, decodedMeaning, alone}
 use Rattle.nodes.proofs.Carried.{named}
 use Rattle.nodes.proofs.AgreeLaws.{Agree}
 use Rattle.nodes.proofs.CheckedLaws.{guard-value}
 
-clock-byte : (kind : Kind) (s : List ℕ) (at b d j : ℕ) → j < 3 → Option·getD (fieldAt kind s at (b + j)) d ≡ getD (clockBytes kind s at b d) j d
+clock-byte : (kind : Kind) (s : List ℕ) (at b d j : ℕ) → j < 3 → Option·getD (fieldAt kind s at (b + j)) d ≡ getD (clockBytes kind s at b d) j 0
 clock-byte kind s at b d zero h = ap (λ (x : ℕ). Option·getD (fieldAt kind s at x) d) (add-zero b)
 clock-byte kind s at b d (suc zero) h = refl
 clock-byte kind s at b d (suc (suc zero)) h = refl
@@ -111,3 +112,20 @@ module _ (y : Layout) (s : Sheet) (x : ℕ) where
       let B = alone (s .clocks) e (locationIn s (u .location)) in
       simp (lt-leb code 31 h) (λ i. Option·map (named (number y))
       (cond (eqb code 32) (unit-alone s u e i) (cond (eqb code 33) (move-alone s u e i) none)))
+
+  -- question 15: the location is one of the sheet's, and the rest by its record
+  pub number-alone : (e : Edge) → isNumber y (decodedMeaning s) x ≡ ltb (nodeOf y (fewClocks (s .clocks)) x .location) (s .locations)
+      && isNumber y (alone (s .clocks) e (locationIn s (nodeOf y (fewClocks (s .clocks)) x .location))) x
+  unfolding isNumber isNode decodedMeaning alone inBounds
+  number-alone e =
+      let u = nodeOf y (fewClocks (s .clocks)) x in
+      swap (eqb (number y u) x) (ltb (u .location) (s .locations)) (eqb (length (u .region .whole)) (fewClocks (s .clocks))
+      && (eqb (length (u .region .class)) (fewClocks (s .clocks))
+      && (usesEachRank (u .region .class) && (leb (u .corner) (largest (u .region .class)) && inside (decodedMeaning s) u))))
+      (lt-ltb (u .location) 16 (unfold nodeOf in mod-lt (x / 2 ^ y .location) {m = 16} (lit< tt)))
+    where
+      swap : (a b c : Bool) {d : Bool} → d ≡ true → a && (b && c) ≡ b && (a && (d && c))
+      swap true true c h = ap (λ (d : Bool). d && c) (sym h)
+      swap true false c h = refl
+      swap false true c h = refl
+      swap false false c h = refl

@@ -1,7 +1,7 @@
 -- Numbers and nodes: they are the same, and so are the steps, walks, cycles and potentials on them.
-use mathlib.Core.Path.{_≡_, sym, ap, ap₂, _∙_, subst}
-use mathlib.Core.Bool.{Bool, true, _&&_}
-use mathlib.Core.Option.{Option, some, Option·map}
+use mathlib.Core.Path.{_≡_, sym, ap, _∙_, subst}
+use mathlib.Core.Bool.{true}
+use mathlib.Core.Option.{some, Option·map}
 use Prim.Native.Nat.{ℕ, _^_, _≤_, _<_}
 use native.Mathlib.Omega.{arith}
 use borrow.Author.Tests.{eqb-true, eq-eqb}
@@ -13,19 +13,18 @@ use Rattle.automaton.specs.Automaton.{Automaton}
 use Rattle.automaton.specs.Priced.{Priced}
 use Rattle.automaton.specs.Nodes.{Node, isNode, startNode, Sound}
 use Rattle.automaton.specs.Steps.{step}
-use Rattle.automaton.specs.Walks.{Walk, Reachable, ReachableCycle}
+use Rattle.automaton.specs.Walks.{Reachable, ReachableCycle}
 use Rattle.automaton.specs.Weights.{weight, Feasible}
 use Rattle.automaton.specs.Runs.{State, Member, run, startState}
 use Rattle.automaton.specs.Loops.{NoLoopBelow}
 use Rattle.automaton.proofs.Tests.{&&-left, &&-right, &&-intro}
-use Rattle.automaton.proofs.Lists.{Each}
 use Rattle.automaton.proofs.Codes.{unit-or-move}
 use Rattle.automaton.proofs.Nodes.{Proper, proper-of, class-small, corner-small, whole-small}
 use Rattle.automaton.proofs.Reached.{start-is-node, step-to-node}
 use Rattle.automaton.proofs.Comparison.{no-loop-below, run-weighs}
 use Rattle.nodes.specs.Numbers.{Layout, classAt, number, nodeOf, isNumber, stepBy, startNumber}
 use Rattle.nodes.proofs.Packing.{Fits, unpacked}
-use Rattle.nodes.proofs.Carried.{named, Named, named-some, Source, reach-named, reach-back, walk-named, cycle-named, cycle-back, feasible-back}
+use Rattle.nodes.proofs.Carried.{named, named-some, Source, reach-named, reach-back, cycle-named, cycle-back, feasible-back}
 
 -- the nodes of an automaton have room in a layout
 pub record Room (y : Layout) (A : Automaton) : Type 0 where
@@ -54,17 +53,17 @@ module _ (y : Layout) (A : Automaton) (room : Room y A) where
   -- and packing undoes unpacking
   pub number-of-node : (x : ℕ) → isNumber y A x ≡ true → number y (nodeOf y (A .clocks) x) ≡ x
   unfolding isNumber
-  number-of-node x h = let u = nodeOf y (A .clocks) x in eqb-true (number y u) x (&&-right (isNode A u) (eqb (number y u) x) h)
+  number-of-node x h = let u = nodeOf y (A .clocks) x in eqb-true (number y u) x (&&-left (eqb (number y u) x) (isNode A u) h)
 
   pub node-there : (x : ℕ) → isNumber y A x ≡ true → isNode A (nodeOf y (A .clocks) x) ≡ true
   unfolding isNumber
-  node-there x h = let u = nodeOf y (A .clocks) x in &&-left (isNode A u) (eqb (number y u) x) h
+  node-there x h = let u = nodeOf y (A .clocks) x in &&-right (eqb (number y u) x) (isNode A u) h
 
   pub number-there : (u : Node) → isNode A u ≡ true → isNumber y A (number y u) ≡ true
   unfolding isNumber
   number-there u h =
       let e = node-of-number u h in
-      &&-intro (ap (isNode A) e ∙ h) (eq-eqb _ _ (ap (number y) e))
+      &&-intro (eq-eqb _ _ (ap (number y) e)) (ap (isNode A) e ∙ h)
 
   pub apart : (u v : Node) → isNode A u ≡ true → isNode A v ≡ true → number y u ≡ number y v → u ≡ v
   apart u v h k e = sym (node-of-number u h) ∙ ap (nodeOf y (A .clocks)) e ∙ node-of-number v k

@@ -1,6 +1,5 @@
 -- The automaton that a decoded sheet means, whatever stands in it, and the ones of its records.
-use mathlib.Core.Bool.{Bool, not}
-use mathlib.Core.List.{List}
+use mathlib.Core.Bool.{not}
 use mathlib.Core.Option.{Option}
 use Prim.Native.Nat.{ℕ, min}
 use lib.Dec.{eqb}
@@ -29,7 +28,7 @@ abbrev pub lowerIn : Edge → ℕ → ℕ
 lowerIn e j = getD (e .lower) j 0
 
 abbrev pub upperIn : Edge → ℕ → Option ℕ
-upperIn e j = guardOf (getD (e .upper) j 255)
+upperIn e j = guardOf (getD (e .upper) j 0)
 
 abbrev pub locationIn : Sheet → ℕ → Location
 locationIn s l = getD (s .location) l blankLocation
@@ -54,11 +53,11 @@ decodedMeaning s = record {
   reward = λ e. edgeIn s e .reward;
 }
 
--- So many clocks, one edge, by the code 0, and one location's record for all locations. A step needs no more of a sheet: an edge needs its own
--- record and its target's, a delay its location's.
+-- So many clocks, one edge, by the code 0, and one location's record for each location that four bits can tell. A step needs no more of a sheet:
+-- an edge needs its own record and its target's, a delay its location's.
 unfoldable pub alone : ℕ → Edge → Location → Automaton
 alone k e l = record {
-  locations = 1;
+  locations = 16;
   clocks = fewClocks k;
   edges = 1;
   bound = λ i. boundIn l;

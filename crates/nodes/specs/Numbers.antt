@@ -62,7 +62,7 @@ nodeOf y clocks x = record {
 module _ (y : Layout) (A : Automaton) where
   -- 15. "Is the number that of a node of this sheet?" All other bits are clear where the node has this very number.
   unfoldable pub isNumber : ℕ → Bool
-  isNumber x = isNode A (nodeOf y (A .clocks) x) && eqb (number y (nodeOf y (A .clocks) x)) x
+  isNumber x = eqb (number y (nodeOf y (A .clocks) x)) x && isNode A (nodeOf y (A .clocks) x)
 
   -- one step on numbers: where it leads is told by its number
   unfoldable pub stepBy : ℕ → ℕ → Option (Priced ℕ)

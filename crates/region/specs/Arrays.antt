@@ -54,7 +54,7 @@ abbrev pub guardHolds : ℕ → ℕ → ℕ → Bool
 guardHolds lower upper i = lowerHolds lower i && ifPresent upperHolds (guardOf upper) i
 
 unfoldable pub guardsIn : List ℕ → List ℕ → ℕ → Region → Bool
-guardsIn lower upper clocks r = every (λ j x. guardHolds (getD lower j 0) (getD upper j 255) x) (intervalsIn clocks r)
+guardsIn lower upper clocks r = every (λ j x. guardHolds (getD lower j 0) (getD upper j 0) x) (intervalsIn clocks r)
 
 abbrev pub maskedRegion : ℕ → Region → Region
 maskedRegion reset r = record { whole = mask (stands reset) (r .whole); class = mask (stands reset) (r .class) }

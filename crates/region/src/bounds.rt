@@ -1,9 +1,6 @@
 // Bounds and guards: whether they hold in a whole region.
 ghost use mathlib.Core.Path.{_≡_};
-ghost use mathlib.Core.List.{zipWith};
 ghost use Prim.Native.Nat.{_≤_};
-ghost use lib.ListN.{take, getD};
-ghost use Rattle.automaton.specs.Tests.{every};
 ghost use Rattle.automaton.specs.Bounds.{interval, upperHolds};
 ghost use Rattle.region.specs.Arrays.{guardHolds, guardsIn, boundsIn};
 use crate::Region;
@@ -16,13 +13,20 @@ pub(crate) fn interval_of(h: u8, k: u8) -> u16
     if k == 0 { twice } else { twice + 1 }
 }
 
+// Whether an upper byte holds in an interval.
+fn upper_holds(upper: u8, i: u16) -> bool
+    ensures { λ r. ⌜ r ≡ upperHolds upper i ⌝ }
+{
+    i < upper as u16
+}
+
 // Whether the region lies within the upper bytes of its clocks.
 pub(crate) fn inside(region: Region, upper: [u8; 3], clocks: usize) -> bool
     requires { ⌜ clocks ≤ 3 ⌝ }
     ensures { λ r. ⌜ r ≡ boundsIn upper clocks region ⌝ }
 {
     for j in 0..clocks {
-        if (upper[j] as u16) <= interval_of(region.whole[j], region.class[j]) {
+        if !upper_holds(upper[j], interval_of(region.whole[j], region.class[j])) {
             return false;
         }
     }
@@ -39,7 +43,7 @@ fn guard_holds(lower: u8, upper: u8, i: u16) -> bool
     if upper == 255 {
         return true;
     }
-    i < upper as u16
+    upper_holds(upper, i)
 }
 
 // Whether the guards of an edge hold in the whole region.

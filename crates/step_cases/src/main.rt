@@ -82,7 +82,7 @@ fn one(line: &[u8]) {
     }
     let rest = second + 1;
     let code = (decimal(&line[rest..]) % 65536) as u16;
-    let r = region::step(&bytes[..count], number, code);
+    let r = step::step(&bytes[..count], number, code);
     io::print_decimal(STDOUT_FILENO, r.refusal as u64);
     io::write_all(STDOUT_FILENO, b" ");
     io::print_decimal(STDOUT_FILENO, r.number as u64);

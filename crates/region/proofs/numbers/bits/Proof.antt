@@ -1,28 +1,27 @@
+-- A shift divides by a power of two, and a mask takes the remainder.
+use Prim.Native.Nat.{_/_, _^_}
+use native.Mathlib.Omega.{arith}
+use lib.Pow.{pow-pos}
+use Rattle.sheet.proofs.MapLaws.{one-shl}
+use Rattle.region.proofs.BitLaws.{low-bits, low-below}
 use borrow.Author.Needs.{needs}
 use Rattle.region.proofs.numbers.bits.Statement.{statement}
 use Rattle.region.proofs.numbers.bits.Tie as tie
-use Rattle.region.proofs.numbers.bits.Reads as reads
-use Rattle.region.proofs.numbers.bits.Lts as lts
 
--- src/numbers.rt:14:7
 shr-result : tie.Need-shr-result
 shr-result c = search needs
 
--- src/numbers.rt:14:20
 shl-result : tie.Need-shl-result
 shl-result c = search needs
 
--- src/numbers.rt:14:19
 sub-result : tie.Need-sub-result
-sub-result c = ?
+sub-result c = rw (one-shl 32 (c .args .width) (omega arith)) (pow-pos (c .args .width))
 
--- src/numbers.rt:14:5
 cast-result : tie.Need-cast-result
-cast-result c = ?
+cast-result c = rw (low-bits (c .args .x / 2 ^ c .args .at) (c .args .width) (omega arith)) (omega (arith, low-below (c .args .x / 2 ^ c .args .at) (c .args .width) (omega arith)))
 
--- src/numbers.rt:10:1
 returns : tie.Need-returns
-returns c = ?
+returns c = low-bits (c .args .x / 2 ^ c .args .at) (c .args .width) (omega arith)
 
 pub bits-spec : {M : Type 1} → statement M
 bits-spec = tie.close (tie.spec shr-result shl-result sub-result cast-result returns)

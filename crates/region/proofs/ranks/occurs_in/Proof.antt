@@ -1,41 +1,40 @@
+-- It is not among the clocks passed.
+use mathlib.Core.Path.{_≡_, refl, sym}
+use mathlib.Core.Bool.{false}
+use Prim.Native.Nat.{_-_, _≤_}
+use borrow.Author.Needs.{needs}
+use lib.ListN.{take}
+use Rattle.automaton.specs.Tests.{occurs}
+use Rattle.region.proofs.ClockLaws.{occurs-found, occurs-more, occurs-all}
 use Rattle.region.proofs.ranks.occurs_in.Statement.{statement}
 use Rattle.region.proofs.ranks.occurs_in.Tie as tie
-use Rattle.region.proofs.ranks.occurs_in.Reads as reads
-use Rattle.region.proofs.ranks.occurs_in.Lts as lts
 
 abbrev Inv-loop : tie.InvT-loop
-Inv-loop clocks v class j₀ j = ?
+Inv-loop clocks v class j₀ j = (j ≤ clocks) × (occurs v (take j class) ≡ false)
 
 abbrev μ-loop : tie.MeasureT-loop
-μ-loop clocks v class j₀ j = ?
+μ-loop clocks v class j₀ j = clocks - j
 
--- src/ranks.rt:14:5
 loop-holds : tie.Need-loop-holds Inv-loop μ-loop
-loop-holds c = ?
+loop-holds c = (search needs, refl)
 
--- src/ranks.rt:15:17
 array-read-if1 : tie.Need-array-read-if1 Inv-loop μ-loop
-array-read-if1 c = ?
+array-read-if1 c = search needs
 
--- src/ranks.rt:16:13
 returns : tie.Need-returns Inv-loop μ-loop
-returns c = ?
+returns c = sym (occurs-found (c .before .before .before .args .v) (c .before .before .before .args .t1) (c .before .before .before .args .clocks) (c .before .before .loop .j) (search needs) (search needs) (c .if1 .taken))
 
--- src/ranks.rt:14:9
 add-j : tie.Need-add-j Inv-loop μ-loop
-add-j c = ?
+add-j c = search needs
 
--- src/ranks.rt:14:5
 loop-less : tie.Need-loop-less Inv-loop μ-loop
-loop-less c = ?
+loop-less c = search needs
 
--- src/ranks.rt:14:5
 loop-again : tie.Need-loop-again Inv-loop μ-loop
-loop-again c = ?
+loop-again c = (search needs, occurs-more (c .before .before .before .args .v) (c .before .before .before .args .t1) (c .before .before .loop .j) (search needs) (c .before .before .loop .inv .1) (c .if1 .left))
 
--- src/ranks.rt:10:1
 returns-2 : tie.Need-returns-2 Inv-loop μ-loop
-returns-2 c = ?
+returns-2 c = sym (occurs-all (c .before .before .args .v) (c .before .before .args .t1) (c .before .before .args .clocks) (c .before .loop .j) (search needs) (search needs) (c .before .loop .inv .1))
 
 pub occurs-in-spec : {M : Type 1} → statement M
 occurs-in-spec =

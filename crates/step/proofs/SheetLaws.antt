@@ -1,0 +1,116 @@
+-- Questions 15 and 16 of a decoded sheet by its records; and what was read steps as its bytes do.
+use mathlib.Core.Path.{_≡_, refl, sym, ap, ap₂, _∙_}
+use mathlib.Core.Bool.{Bool, true, false, cond, _&&_}
+use mathlib.Core.List.{List, [], _∷_}
+use Prim.Native.Nat.{ℕ, zero, suc, _≤_, _<_}
+use native.Mathlib.Omega.{arith}
+use borrow.Author.Tests.{eqb-true, eq-eqb, ne-eqb, le-leb, lt-leb, lt-ltb, le-ltb}
+use lib.Dec.{eqb}
+use lib.ListN.{length, getD}
+use Rattle.automaton.specs.Steps.{edgeStep, step}
+use Rattle.automaton.proofs.Tests.{by-bool}
+use Rattle.sheet.specs.Questions.{checkOf}
+use Rattle.sheet.specs.Decoded.{blankEdge, decodedSheet, refusedSheet, readOf}
+use Rattle.sheet.specs.declared.Edge.{Edge}
+use Rattle.sheet.specs.declared.Location.{Location}
+use Rattle.sheet.specs.declared.Sheet.{Sheet}
+use Rattle.nodes.specs.Numbers.{firstLayout, bitsOf, nodeOf, isNumber, stepBy}
+use Rattle.nodes.specs.Meaning.{meaning}
+use Rattle.nodes.specs.Decoded.{locationIn, edgeIn, decodedMeaning, alone}
+use Rattle.nodes.proofs.CheckedLaws.{sound, room}
+use Rattle.nodes.proofs.NumberLaws.{node-there}
+use Rattle.nodes.proofs.AgreeLaws.{Agree, numbers-agree, number-steps-agree}
+use Rattle.nodes.proofs.DecodedLaws.{read-agrees, edge-alone-number, delay-alone-number, number-alone}
+use Rattle.region.specs.Answers.{refused, answered}
+use Rattle.region.specs.declared.Stepped.{Stepped}
+use Rattle.step.specs.Step.{answerAt, stepOf, stepIn}
+
+module _ (s : Sheet) (x : ℕ) where
+  -- question 15
+  pub no-location : s .locations ≤ bitsOf x 4 20 → false ≡ isNumber firstLayout (decodedMeaning s) x
+  unfolding nodeOf
+  no-location h = sym (number-alone firstLayout s x blankEdge
+      ∙ ap (λ (b : Bool). b && isNumber firstLayout (alone (s .clocks) blankEdge (locationIn s (bitsOf x 4 20))) x) (le-ltb _ _ h))
+
+  pub by-location : bitsOf x 4 20 < s .locations → (l : Location) → l ≡ locationIn s (bitsOf x 4 20)
+      → isNumber firstLayout (alone (s .clocks) blankEdge l) x ≡ isNumber firstLayout (decodedMeaning s) x
+  unfolding nodeOf
+  by-location h l q = ap (λ (l : Location). isNumber firstLayout (alone (s .clocks) blankEdge l) x) q
+      ∙ sym (number-alone firstLayout s x blankEdge
+      ∙ ap (λ (b : Bool). b && isNumber firstLayout (alone (s .clocks) blankEdge (locationIn s (bitsOf x 4 20))) x) (lt-ltb _ _ h))
+
+  -- an edge that the sheet does not have
+  pub no-edge : (e : ℕ) → e ≤ 31 → s .edges ≤ e → refused 16 ≡ answered (stepBy firstLayout (decodedMeaning s) x e)
+  unfolding stepBy step edgeStep decodedMeaning
+  no-edge e h l = sym (simp (le-leb e 31 h, le-ltb e (s .edges) l))
+
+  pub no-code : (code : ℕ) → 31 < code → (code ≡ 32 → ⊥) → (code ≡ 33 → ⊥) → refused 16 ≡ answered (stepBy firstLayout (decodedMeaning s) x code)
+  unfolding stepBy step
+  no-code code h m n = sym (simp (lt-leb code 31 h, ne-eqb code 32 m, ne-eqb code 33 n))
+
+  -- an edge that it has, and a delay, by the records at hand
+  pub edge-there : (e : ℕ) → e ≤ 31 → e < s .edges → (w : Edge) → w ≡ edgeIn s e → (l : Location) → l ≡ locationIn s (w .target)
+      → answered (stepBy firstLayout (alone (s .clocks) w l) x 0) ≡ answered (stepBy firstLayout (decodedMeaning s) x e)
+  edge-there e h k w p l q =
+      ap₂ (λ (w : Edge) (l : Location). answered (stepBy firstLayout (alone (s .clocks) w l) x 0)) p (q ∙ ap (λ (w : Edge). locationIn s (w .target)) p)
+      ∙ sym (ap answered (edge-alone-number firstLayout s x e h k))
+
+  pub delay-there : (code c : ℕ) → code ≡ c → 31 < c → (l : Location) → l ≡ locationIn s (bitsOf x 4 20)
+      → answered (stepBy firstLayout (alone (s .clocks) blankEdge l) x c) ≡ answered (stepBy firstLayout (decodedMeaning s) x code)
+  unfolding nodeOf
+  delay-there code c p h l q = ap (λ (l : Location). answered (stepBy firstLayout (alone (s .clocks) blankEdge l) x c)) q
+      ∙ sym (ap answered (delay-alone-number firstLayout s x blankEdge c h)) ∙ ap (λ (m : ℕ). answered (stepBy firstLayout (decodedMeaning s) x m)) (sym p)
+
+  -- ---- a whole step
+
+  module _ (code : ℕ) where
+    pub step-refused : (s .refusal ≡ 0 → ⊥) → refused (s .refusal) ≡ stepIn s x code
+    unfolding stepIn
+    step-refused n = sym (simp (ne-eqb _ _ n))
+
+    pub step-nowhere : s .refusal ≡ 0 → isNumber firstLayout (decodedMeaning s) x ≡ false → refused 15 ≡ stepIn s x code
+    unfolding stepIn answerAt
+    step-nowhere z h = sym (simp (eq-eqb _ _ z, h))
+
+    pub step-answered : s .refusal ≡ 0 → isNumber firstLayout (decodedMeaning s) x ≡ true
+        → answered (stepBy firstLayout (decodedMeaning s) x code) ≡ stepIn s x code
+    unfolding stepIn answerAt
+    step-answered z h = sym (simp (eq-eqb _ _ z, h))
+
+-- what stands below the length is there whatever stands past it
+pub any-default : {X : Type 0} (xs : List X) (j : ℕ) (c d : X) → j < length xs → getD xs j c ≡ getD xs j d
+any-default [] j c d h = absurd (omega arith)
+any-default (x ∷ xs) zero c d h = refl
+any-default (x ∷ xs) (suc j) c d h = any-default xs j c d (omega arith)
+
+-- ---- what was read steps as its bytes do
+
+refusal-is : (bytes : List ℕ) → readOf bytes .refusal ≡ checkOf bytes
+unfolding readOf
+refusal-is bytes = by-bool (eqb (checkOf bytes) 0)
+    (λ t. ap (λ (b : Bool). cond b (decodedSheet bytes) (refusedSheet (checkOf bytes)) .refusal) t ∙ sym (eqb-true (checkOf bytes) 0 t))
+    (λ f. ap (λ (b : Bool). cond b (decodedSheet bytes) (refusedSheet (checkOf bytes)) .refusal) f)
+
+answers-agree : (bytes : List ℕ) → checkOf bytes ≡ 0 → (x code : ℕ)
+    → answerAt firstLayout (decodedMeaning (readOf bytes)) x code ≡ answerAt firstLayout (meaning bytes) x code
+unfolding answerAt
+answers-agree bytes ok x code = sym (by-bool (isNumber firstLayout (meaning bytes) x)
+    (λ t. ap₂ (λ (b : Bool) (v : Stepped). cond b v (refused 15)) same
+    (ap answered (number-steps-agree firstLayout (meaning bytes) (decodedMeaning (readOf bytes)) agree (sound bytes ok) x code
+    (node-there firstLayout (meaning bytes) (room bytes ok) x t))))
+    (λ f. ap (λ (b : Bool). cond b (answered (stepBy firstLayout (meaning bytes) x code)) (refused 15)) f
+    ∙ sym (ap (λ (b : Bool). cond b (answered (stepBy firstLayout (decodedMeaning (readOf bytes)) x code)) (refused 15)) (sym same ∙ f))))
+  where
+    agree : Agree (meaning bytes) (decodedMeaning (readOf bytes))
+    agree = read-agrees bytes ok
+
+    same : isNumber firstLayout (meaning bytes) x ≡ isNumber firstLayout (decodedMeaning (readOf bytes)) x
+    same = numbers-agree firstLayout (meaning bytes) (decodedMeaning (readOf bytes)) agree x
+
+pub read-steps : (bytes : List ℕ) (x code : ℕ) → stepIn (readOf bytes) x code ≡ stepOf bytes x code
+unfolding stepIn stepOf
+read-steps bytes x code = by-bool (eqb (checkOf bytes) 0)
+    (λ t. ap₂ (λ (r : ℕ) (v : Stepped). cond (eqb r 0) v (refused r)) (refusal-is bytes) (answers-agree bytes (eqb-true (checkOf bytes) 0 t) x code))
+    (λ f. ap (λ (r : ℕ). cond (eqb r 0) (answerAt firstLayout (decodedMeaning (readOf bytes)) x code) (refused r)) (refusal-is bytes)
+    ∙ ap (λ (b : Bool). cond b (answerAt firstLayout (decodedMeaning (readOf bytes)) x code) (refused (checkOf bytes))) f
+    ∙ sym (ap (λ (b : Bool). cond b (answerAt firstLayout (meaning bytes) x code) (refused (checkOf bytes))) f))

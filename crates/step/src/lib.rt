@@ -1,0 +1,101 @@
+// One step: of a sheet's bytes, and of a decoded sheet.
+ghost use mathlib.Core.Path.{_≡_};
+ghost use Prim.Native.Nat.{_≤_};
+ghost use lib.ListN.{getD};
+ghost use Rattle.nodes.specs.Numbers.{firstLayout, bitsOf, isNumber, stepBy};
+ghost use Rattle.nodes.specs.Decoded.{decodedMeaning, locationIn};
+ghost use Rattle.sheet.specs.Decoded.{blankEdge, blankLocation};
+ghost use Rattle.region.specs.Answers.{answered};
+ghost use Rattle.step.specs.Step.{stepOf, stepIn};
+use region::Stepped;
+use sheet::Edge;
+use sheet::Location;
+use sheet::Sheet;
+
+// The record of a location, a blank one past the last.
+fn location_of(all: [Location; 12], l: u8) -> Location
+    ensures { λ r. ⌜ r ≡ getD all l blankLocation ⌝ }
+{
+    if l < 12 {
+        return all[l as usize];
+    }
+    Location {
+        cost: 0,
+        reward: 0,
+        upper: [0, 0, 0],
+    }
+}
+
+// The record of an edge.
+fn edge_of(all: [Edge; 32], e: usize) -> Edge
+    requires { ⌜ e ≤ 31 ⌝ }
+    ensures { λ r. ⌜ r ≡ getD all e blankEdge ⌝ }
+{
+    all[e]
+}
+
+// The record of a node's location.
+fn location_at(sheet: Sheet, number: u32) -> Location
+    ensures { λ r. ⌜ r ≡ locationIn sheet (bitsOf number 4 20) ⌝ }
+{
+    let locations = sheet.location;
+    location_of(locations, region::location_in(number))
+}
+
+// Question 15.
+pub fn is_number(sheet: Sheet, number: u32) -> bool
+    ensures { λ r. ⌜ r ≡ isNumber firstLayout (decodedMeaning sheet) number ⌝ }
+{
+    if sheet.locations <= region::location_in(number) {
+        return false;
+    }
+    region::corners::is_number(number, sheet.clocks, location_at(sheet, number))
+}
+
+// The edge of a code, where the sheet has one.
+fn edge_from(sheet: Sheet, number: u32, e: usize) -> Stepped
+    requires { ⌜ e ≤ 31 ⌝ }
+    ensures { λ r. ⌜ r ≡ answered (stepBy firstLayout (decodedMeaning sheet) number e) ⌝ }
+{
+    if (sheet.edges as usize) <= e {
+        return region::refused(16);
+    }
+    let edges = sheet.edge;
+    let edge = edge_of(edges, e);
+    let locations = sheet.location;
+    let target = location_of(locations, edge.target);
+    region::edges::edge_step(number, sheet.clocks, edge, target)
+}
+
+// Question 16.
+pub fn step_from(sheet: Sheet, number: u32, code: u16) -> Stepped
+    ensures { λ r. ⌜ r ≡ answered (stepBy firstLayout (decodedMeaning sheet) number code) ⌝ }
+{
+    match code {
+        0..=31 => edge_from(sheet, number, code as usize),
+        32 => region::delays::unit_step(number, sheet.clocks, location_at(sheet, number)),
+        33 => region::delays::move_step(number, sheet.clocks, location_at(sheet, number)),
+        _ => region::refused(16),
+    }
+}
+
+// One step of a decoded sheet: its refusal, then questions 15 and 16.
+pub fn step_in(sheet: Sheet, number: u32, code: u16) -> Stepped
+    ensures { λ r. ⌜ r ≡ stepIn sheet number code ⌝ }
+{
+    let refusal = sheet.refusal;
+    if refusal != 0 {
+        return region::refused(refusal);
+    }
+    if !is_number(sheet, number) {
+        return region::refused(15);
+    }
+    step_from(sheet, number, code)
+}
+
+// One step: questions 2 to 11, then 15 and 16.
+pub fn step(sheet: &[u8], number: u32, code: u16) -> Stepped
+    ensures { λ r. ⌜ r ≡ stepOf (now (sheet .entry)) number code ⌝ }
+{
+    step_in(sheet::read(sheet), number, code)
+}
