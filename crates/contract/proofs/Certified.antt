@@ -27,7 +27,8 @@ use Rattle.nodes.proofs.QuestionLaws.{each-at}
 use Rattle.walks.specs.Walk.{at, atℤ}
 use Rattle.contract.specs.Questions.{TooMany}
 use Rattle.contract.specs.Accepted.{Listed, NodeList}
-use Rattle.contract.specs.Certificate.{allTrue, indexOf, lists, rises, isLowest, ifAllowed, isAllowed, thence, eachStep, holdsAll, keeps, falls, isLasso, passed, isPassed}
+use Rattle.contract.specs.Certificate.{allTrue, indexOf, lists, rises, isLowest, ifAllowed, isAllowed, thence, eachStep, holdsAll}
+use Rattle.contract.specs.Certificate.{keeps, falls, isLasso, passed, isPassed}
 use Rattle.contract.proofs.Indices.{index-is}
 use Rattle.contract.proofs.Counts.{few-listed}
 

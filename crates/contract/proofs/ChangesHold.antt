@@ -91,7 +91,8 @@ allCertified (r ∷ rows) [] = false
 allCertified (r ∷ rows) (c ∷ cs) = certifies (r .bytes) (r .says) c && allCertified rows cs
 
 computed : allCertified changes certificates ≡ true
-unfolding allCertified certificates ladder heights left upward changes certifies showsAccepted showsRefused isPassed passed isLasso falls keeps holdsAll eachStep isLowest rises indexOf allTrue
+unfolding allCertified certificates ladder heights left upward changes certifies
+    showsAccepted showsRefused isPassed passed isLasso falls keeps holdsAll eachStep isLowest rises indexOf allTrue
     meaning stepBy nodeOf listFrom number clocksFrom
     checkOf recordsCode startCode edgeCode locationCode endsCode boundsCode fieldsCode fieldGood mapCode bitGood firstOf each
     recordAt recordLength fieldAt valueAt fieldPlace inRange costInRange permittedField fieldOf placeOf signedOf

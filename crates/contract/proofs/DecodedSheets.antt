@@ -72,7 +72,7 @@ read-refusal bytes = by-bool (eqb (checkOf bytes) 0)
     (λ f. ap (λ (b : Bool). cond b (decodedSheet bytes) (refusedSheet (checkOf bytes)) .refusal) f)
 
 module _ (bytes : List ℕ) (ok : checkOf bytes ≡ 0) where
-  -- the steps of the decoded sheet, as `region::step_from` answers them, and its start
+  -- the steps of the decoded sheet, as `step::step_from` answers them, and its start
   abbrev pub stepRead : ℕ → ℕ → Option (Priced ℕ)
   stepRead = stepBy firstLayout (decodedMeaning (readOf bytes))
 

@@ -66,7 +66,8 @@ module _ (step : ℕ → ℕ → Option (Priced ℕ)) (start : ℕ) (g : Found) 
     reachable = x .reachable;
     source = λ e h. rw (front (g .from) e h) (x .source e h);
     target = λ e h. rw (front (g .to) e h) (x .target e h);
-    sound = λ e h. rw (front (g .from) e h, front (g .to) e h, front (g .code) e h, getD-take (g .m) (g .cost) e (pos 0) h, front (g .reward) e h) (x .sound e h);
+    sound = λ e h. rw (front (g .from) e h, front (g .to) e h, front (g .code) e h, front (g .reward) e h, getD-take (g .m) (g .cost) e (pos 0) h)
+        (x .sound e h);
     complete = λ a code v h e. (let t = x .complete a code v h e in record {
       arc = t .arc;
       below = t .below;
@@ -124,5 +125,6 @@ module _ (g : Found) (a b : List ℕ) where
   pub reward-turned : rewardOf g (b ++ a) ≡ rewardOf g (a ++ b)
   reward-turned = omega (arith, total-append (at (g .reward)) a b, total-append (at (g .reward)) b a)
 
-  pub exact-turned : (p : ℤ) (q : ℕ) → pos q *ℤ costOf g (a ++ b) ≡ p *ℤ pos (rewardOf g (a ++ b)) → pos q *ℤ costOf g (b ++ a) ≡ p *ℤ pos (rewardOf g (b ++ a))
+  pub exact-turned : (p : ℤ) (q : ℕ) → pos q *ℤ costOf g (a ++ b) ≡ p *ℤ pos (rewardOf g (a ++ b))
+      → pos q *ℤ costOf g (b ++ a) ≡ p *ℤ pos (rewardOf g (b ++ a))
   exact-turned p q e = rw (cost-turned, reward-turned) e

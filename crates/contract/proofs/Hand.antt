@@ -1,4 +1,6 @@
--- The checklist: what the planner's code has in hand where it accepts. `Exits.accepted` makes the whole contract of it, demand 3 included.
+-- The checklist: what the planner's code has in hand where it accepts. Of it `Exits.accepted` makes the whole contract, demand 3 included.
+-- The other ways out have laws in Exits too: short-buffer (1), faulty-sheet (2 to 11), too-many-nodes (12), no-cycle-reachable (13) and
+-- cycle-earns-nothing (14).
 use mathlib.Core.Path.{_≡_}
 use mathlib.Core.List.{List, _++_}
 use Prim.Native.Nat.{ℕ, _+_, _≤_, _<_}
@@ -12,7 +14,8 @@ use Rattle.walks.proofs.Lassos.{Lasso}
 use Rattle.contract.specs.Plan.{Buffers, LongEnough, SameLengths, stepOn, startOf}
 use Rattle.contract.specs.Explored.{Found, Explored}
 
--- The weights that the three searches go by, as `graph::negative_cycle` takes them.
+-- ---- the weights that the searches go by, as `graph::negative_cycle` takes them
+
 -- question 13, coefficients 0, 0, −1: every cycle is negative
 abbrev pub weight13 : Found → ℕ → ℤ
 weight13 g = weightOf (pos 0) (pos 0) (negsuc 0) (g .cost) (g .reward)
@@ -25,29 +28,31 @@ weight14 g = weightOf (pos 0) (pos 2049) (negsuc 0) (g .cost) (g .reward)
 abbrev pub weightAt : ℤ → ℕ → Found → ℕ → ℤ
 weightAt p q g = weightOf (pos q) (negℤ p) (pos 0) (g .cost) (g .reward)
 
--- entry i of the node list is the node `at order i` by discovery
+-- the order of output: entry i of the node list is the node `at order i` by discovery
 pub record Sorted (g : Found) (order nodes : List ℕ) : Type 0 where
   pub below : (i : ℕ) → i < g .n → at order i < g .n
   pub is : (i : ℕ) → i < g .n → at nodes i ≡ at (g .node) (at order i)
   pub rising : (i j : ℕ) → i < j → j < g .n → at nodes i < at nodes j
 
--- g is the explored graph, p/q the ratio, D the last search's potentials by discovery, stem and cycle the lasso as arcs of g
+-- g is the explored graph, p/q the ratio, D the potentials by discovery that the last search left, stem and cycle the lasso as arcs of g
 pub record InHand (bytes : List ℕ) (before after : Buffers) (g : Found) (p : ℤ) (q : ℕ) (D : List ℤ) (order stem cycle : List ℕ) : Type 0 where
-  -- questions 1 to 11
+  -- questions 1 to 11 are answered yes
   pub long : LongEnough before
   pub checked : checkOf bytes ≡ 0
-  -- exploring ended, so question 12 is answered yes
+  -- so is question 12, since exploring ended. Exploring by the decoded sheet: `DecodedSheets.explored-read`. Of lists longer than m the first m
+  -- entries will do: `Graphs.explored-cut`. That the search takes them as a graph: `Graphs.graph`.
   pub explored : Explored (stepOn bytes) (startOf bytes) g
-  -- question 14's search ended with potentials (`PotentialsFound`: none)
+  -- so is question 13, since there is the lasso; and question 14, since its search ended with potentials (`PotentialsFound`, none).
+  -- Then each cycle of arcs earns: `Searches.cycle-earns`.
   pub none-idle : NoneNegative (g .from) (g .to) (g .m) (weight14 g)
-  -- so did the last search at p/q (`PotentialsFound`: potentials)
+  -- the last search, at p/q, ended with potentials (`PotentialsFound`, potentials)
   pub potentials : (v : ℕ) → v < g .n → Potential (g .from) (g .to) (g .m) (weightAt p q g) v (atℤ D v)
-  -- p/q is the ratio of the lasso's cycle, in lowest terms; that it earns follows
+  -- p/q is the ratio of the lasso's cycle, in lowest terms. A cycle turned has the same: `Graphs.exact-turned`.
   pub lowest : Lowest p q
   pub exact : pos q *ℤ sum (atℤ (g .cost)) cycle ≡ p *ℤ pos (total (at (g .reward)) cycle)
-  -- a stem from node 0 and a cycle at its end, whose arcs leave distinct nodes; s + m ≤ n follows
+  -- a stem from node 0 and a cycle at its end, whose arcs leave distinct nodes: the law `lasso` of walks. That s + m ≤ n follows.
   pub lasso : Lasso (g .from) (g .to) (g .m) stem cycle
-  -- what was written: the nodes in rising order and 0 after them
+  -- written to the buffers: the nodes in rising order
   pub sorted : Sorted g order (after .nodes)
   pub nodes-rest : (i : ℕ) → g .n ≤ i → i < length (after .nodes) → at (after .nodes) i ≡ 0
   -- the potentials in the same order

@@ -1,5 +1,5 @@
 -- A lasso of arcs is a lasso of steps.
-use mathlib.Core.Path.{_≡_, refl, sym, ap, _∙_}
+use mathlib.Core.Path.{_≡_, refl, sym, ap, _∙_, subst}
 use mathlib.Core.List.{List, [], _∷_, _++_, map, map-append}
 use mathlib.Core.Option.{Option}
 use Prim.Native.Nat.{ℕ, zero, suc, _+_, _≤_, _<_}
@@ -31,7 +31,8 @@ at-map f (x ∷ l) zero h = refl
 at-map f (x ∷ l) (suc i) h = at-map f l i (le-of-suc-le-suc h)
 
 -- the walk along the first i arcs leads to where arc i begins
-front-walk : (F T : List ℕ) (m a : ℕ) (l : List ℕ) (b i : ℕ) → Graph.Walk F T m a l b → i < length l → Graph.Walk F T m a (take i l) (at F (at l i))
+front-walk : (F T : List ℕ) (m a : ℕ) (l : List ℕ) (b i : ℕ) → Graph.Walk F T m a l b → i < length l
+    → Graph.Walk F T m a (take i l) (at F (at l i))
 front-walk F T m a [] b i w h = absurd (omega arith)
 front-walk F T m a (e ∷ l) b zero w h = sym (w .1)
 front-walk F T m a (e ∷ l) b (suc i) w h = (w .0, w .1, front-walk F T m (at T e) l b i (w .2) (le-of-suc-le-suc h))
@@ -89,11 +90,13 @@ module _ {step : ℕ → ℕ → Option (Priced ℕ)} {start : ℕ} {g : Found} 
       node = at (g .node) (o .hub);
       stem-cost = costOf g stem;
       stem-reward = rewardOf g stem;
-      stem = rw stem-codes (start-walk x stem (o .hub) (o .stem));
+      stem = subst (λ (l : List ℕ). Walk step start l (at (g .node) (o .hub)) (costOf g stem) (rewardOf g stem)) (sym stem-codes)
+          (start-walk x stem (o .hub) (o .stem));
       some-step = o .some;
       cost = costOf g cycle;
       reward = rewardOf g cycle;
-      cycle = rw cycle-codes (walk-of x (o .hub) cycle (o .hub) (o .cycle));
+      cycle = subst (λ (l : List ℕ). Walk step (at (g .node) (o .hub)) l (at (g .node) (o .hub)) (costOf g cycle) (rewardOf g cycle)) (sym cycle-codes)
+          (walk-of x (o .hub) cycle (o .hub) (o .cycle));
       simple = λ i j h l z c d r t u v. (let e : i ≡ j = o .simple i j (omega (arith, all)) (omega (arith, all))
           (x .distinct (at (g .from) (at arcs i)) (at (g .from) (at arcs j)) (source-below i (omega arith)) (source-below j l)
           (sym (leads i (omega arith) z c r u) ∙ leads j l z d t v)) in omega arith);

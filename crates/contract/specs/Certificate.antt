@@ -83,12 +83,13 @@ module _ (step : ℕ → ℕ → Option (Priced ℕ)) (start : ℕ) where
   unfoldable pub falls : (ℕ → Bool) → List ℕ → List ℕ → Bool
   falls kind nodes ranks = eachStep nodes (λ i v. not (kind (v .reward)) || ltb (at ranks (indexOf nodes (v .to))) (at ranks i))
 
-  -- the stem is walked from the start, and the cycle from there back; the cycle's cost and reward pass the test
+  -- the cycle is walked from x back to x, and its cost and reward pass the test
+  abbrev pub comesBack : (ℤ → ℕ → Bool) → List ℕ → ℕ → Bool
+  comesBack t cycle x = isAllowed (λ v. allTrue (eqb (v .to) x ∷ t (v .cost) (v .reward) ∷ [])) (chain step x cycle)
+
+  -- the stem is walked from the start, and the cycle from there
   unfoldable pub isLasso : (ℤ → ℕ → Bool) → List ℕ → List ℕ → Bool
-  isLasso t stem cycle = allTrue
-      (ltb 0 (length cycle)
-      ∷ isAllowed (λ u. isAllowed (λ v. allTrue (eqb (v .to) (u .to) ∷ t (v .cost) (v .reward) ∷ [])) (chain step (u .to) cycle)) (chain step start stem)
-      ∷ [])
+  isLasso t stem cycle = allTrue (ltb 0 (length cycle) ∷ isAllowed (λ u. comesBack t cycle (u .to)) (chain step start stem) ∷ [])
 
   -- the nodes that a walk from x passes
   unfoldable pub passed : List ℕ → ℕ → List ℕ
@@ -122,4 +123,5 @@ module _ (step : ℕ → ℕ → Option (Priced ℕ)) (start : ℕ) where
 -- where the check refuses the sheet, no certificate is needed
 unfoldable pub certifies : List ℕ → Says → Certificate → Bool
 certifies bytes (accepts p q n) c = allTrue (eqb (checkOf bytes) 0 ∷ showsAccepted (stepOn bytes) (startOf bytes) p q n c ∷ [])
-certifies bytes (refuses refusal) c = cond (eqb (checkOf bytes) 0) (showsRefused (stepOn bytes) (startOf bytes) refusal c) (eqb refusal (checkOf bytes))
+certifies bytes (refuses refusal) c =
+    cond (eqb (checkOf bytes) 0) (showsRefused (stepOn bytes) (startOf bytes) refusal c) (eqb refusal (checkOf bytes))
