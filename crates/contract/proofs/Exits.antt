@@ -6,7 +6,7 @@ use mathlib.Core.Option.{Option}
 use Prim.Native.Nat.{ℕ, _+_, _≤_, _<_}
 use native.Mathlib.Omega.{arith}
 use lib.IntN.{ℤ, pos}
-use lib.ListN.{length, length-replicate}
+use lib.ListN.{length, take, length-take, length-replicate}
 use Rattle.automaton.specs.Priced.{Priced}
 use Rattle.automaton.specs.Walks.{ReachableCycle}
 use Rattle.automaton.specs.Weights.{Feasible}
@@ -87,12 +87,11 @@ module _ (bytes : List ℕ) (b : Buffers) where
         no-cycle-reachable none = set-to-zero bytes b 13 (omega arith)
             (explored long checked (no-cycle refl few (Searches.no-cycle x none)))
 
-        -- question 14: the search with weight14 found a cycle, of at most n arcs
-        pub cycle-earns-nothing : (l : List ℕ) → NegativeCycle (g .from) (g .to) (g .m) (weight14 g) l → length l ≤ g .n
+        -- question 14: the search with weight14 found a cycle, the first k entries of a list
+        pub cycle-earns-nothing : (k : ℕ) (l : List ℕ) → k ≤ g .n → NegativeCycle (g .from) (g .to) (g .m) (weight14 g) (take k l)
             → Planned bytes b (zeros b) (refused 14)
-        cycle-earns-nothing l o h = set-to-zero bytes b 14 (omega arith) (explored long checked (idle-cycle refl few
-            (Searches.some-cycle x (weight14 g) l o)
-            (Searches.idle-cycle x l o (omega (arith, x .few)))))
+        cycle-earns-nothing k l h o = set-to-zero bytes b 14 (omega arith) (explored long checked (idle-cycle refl few
+            (Searches.some-cycle x (weight14 g) (take k l) o) (Searches.idle-cycle x (take k l) o (omega (arith, length-take k l, x .few)))))
 
 -- accepted
 module _ (bytes : List ℕ) (before after : Buffers) (g : Found) (p : ℤ) (q : ℕ) (D : List ℤ) (order stem cycle : List ℕ)

@@ -7,7 +7,7 @@ use Prim.Native.Nat.{ℕ, _≤_, _<_}
 use native.Mathlib.Omega.{arith}
 use lib.IntN.{ℤ, pos, natAbs, _*ℤ_, +ℤ-comm}
 use lib.ListN.{length, take}
-use lib.Seq.{getD-take}
+use lib.Seq.{getD-take, length-take-le}
 use borrow.Author.Tests.{ltb-true}
 use lib.Dec.{ltb}
 use Rattle.automaton.specs.Automaton.{Automaton}
@@ -40,7 +40,7 @@ code-below y A x code v e =
 
 -- ---- the fronts of the lists
 
--- the same nodes and arcs, in lists of m arcs
+-- the same nodes and arcs, in lists that end with the last arc: the slices that the search is given
 abbrev pub cut : Found → Found
 cut g = record {
   node = g .node;
@@ -50,27 +50,38 @@ cut g = record {
   cost = take (g .m) (g .cost);
   reward = take (g .m) (g .reward);
   n = g .n;
-  m = g .m;
+  m = length (take (g .m) (g .from));
 }
 
-module _ (step : ℕ → ℕ → Option (Priced ℕ)) (start : ℕ) (g : Found) where
+-- the lists have room for the arcs, and the search for as many
+pub record Room (g : Found) : Type 0 where
+  pub from : g .m ≤ length (g .from)
+  pub to : g .m ≤ length (g .to)
+  pub cost : g .m ≤ length (g .cost)
+  pub reward : g .m ≤ length (g .reward)
+  pub few : g .m ≤ 69632
+
+module _ {g : Found} (room : Room g) where
   front : (l : List ℕ) (e : ℕ) → e < g .m → at (take (g .m) l) e ≡ at l e
   front l e h = getD-take (g .m) l e 0 h
 
-  pub explored-cut : Explored step start g → Explored step start (cut g)
+  all-arcs : length (take (g .m) (g .from)) ≡ g .m
+  all-arcs = length-take-le (g .m) (g .from) (room .from)
+
+  pub explored-cut : {step : ℕ → ℕ → Option (Priced ℕ)} {start : ℕ} → Explored step start g → Explored step start (cut g)
   explored-cut x = record {
     some-node = x .some-node;
     first = x .first;
     few = x .few;
     distinct = x .distinct;
     reachable = x .reachable;
-    source = λ e h. rw (front (g .from) e h) (x .source e h);
-    target = λ e h. rw (front (g .to) e h) (x .target e h);
-    sound = λ e h. rw (front (g .from) e h, front (g .to) e h, front (g .code) e h, front (g .reward) e h, getD-take (g .m) (g .cost) e (pos 0) h)
-        (x .sound e h);
+    source = λ e h. (let l : e < g .m = omega (arith, all-arcs) in rw (front (g .from) e l) (x .source e l));
+    target = λ e h. (let l : e < g .m = omega (arith, all-arcs) in rw (front (g .to) e l) (x .target e l));
+    sound = λ e h. (let l : e < g .m = omega (arith, all-arcs) in
+        rw (front (g .from) e l, front (g .to) e l, front (g .code) e l, front (g .reward) e l, getD-take (g .m) (g .cost) e (pos 0) l) (x .sound e l));
     complete = λ a code v h e. (let t = x .complete a code v h e in record {
       arc = t .arc;
-      below = t .below;
+      below = omega (arith, all-arcs, t .below);
       source = front (g .from) (t .arc) (t .below) ∙ t .source;
       code-is = front (g .code) (t .arc) (t .below) ∙ t .code-is;
     });
@@ -103,19 +114,21 @@ module _ (bytes : List ℕ) (ok : checkOf bytes ≡ 0) where
       (node-there (layoutOf bytes) (meaning bytes) (room bytes ok) x (reached-is-number (layoutOf bytes) (meaning bytes) (room bytes ok) (sound bytes ok) r))
       (a .is))
 
-  pub graph : (g : Found) → Explored (stepOn bytes) (startOf bytes) g → length (g .from) ≡ g .m → length (g .to) ≡ g .m → length (g .cost) ≡ g .m
-      → length (g .reward) ≡ g .m → g .m ≤ 69632 → Graph (g .from) (g .to) (g .cost) (g .reward) (g .n)
-  graph g x lf lt lc lr few = record {
+  pub graph : {g : Found} → Room g → Explored (stepOn bytes) (startOf bytes) g
+      → Graph (cut g .from) (cut g .to) (cut g .cost) (cut g .reward) (g .n)
+  graph {g} room whole = record {
     some = x .some-node;
     nodes = x .few;
-    arcs = omega (arith, lf);
-    tos = lt ∙ sym lf;
-    costs = lc ∙ sym lf;
-    rewards = lr ∙ sym lf;
-    arc = λ e h. (let l : e < g .m = omega (arith, lf) in
-        let s = prices (at (g .node) (at (g .from) e)) (at (g .code) e) _ (x .reachable (at (g .from) e) (x .source e l)) (x .sound e l) in
-        record { source = x .source e l; target = x .target e l; cost-small = s .0; reward-small = s .1 });
+    arcs = omega (arith, all-arcs room, room .few);
+    tos = length-take-le (g .m) (g .to) (room .to) ∙ sym (all-arcs room);
+    costs = length-take-le (g .m) (g .cost) (room .cost) ∙ sym (all-arcs room);
+    rewards = length-take-le (g .m) (g .reward) (room .reward) ∙ sym (all-arcs room);
+    arc = λ e h. (let s = prices (at (cut g .node) (at (cut g .from) e)) (at (cut g .code) e) _ (x .reachable (at (cut g .from) e) (x .source e h)) (x .sound e h) in
+        record { source = x .source e h; target = x .target e h; cost-small = s .0; reward-small = s .1 });
   }
+    where
+      x : Explored (stepOn bytes) (startOf bytes) (cut g)
+      x = explored-cut room whole
 
 -- ---- a cycle turned costs and earns the same
 module _ (g : Found) (a b : List ℕ) where

@@ -39,8 +39,8 @@ pub record InHand (bytes : List ℕ) (before after : Buffers) (g : Found) (p : �
   -- questions 1 to 11 are answered yes
   pub long : LongEnough before
   pub checked : checkOf bytes ≡ 0
-  -- so is question 12, since exploring ended. Exploring by the decoded sheet: `DecodedSheets.explored-read`. Of lists longer than m the first m
-  -- entries will do: `Graphs.explored-cut`. That the search takes them as a graph: `Graphs.graph`.
+  -- so is question 12, since exploring ended. Exploring by the decoded sheet: `DecodedSheets.explored-read`. Where the
+  -- lists are longer than m, g is the cut one: `Graphs.explored-cut`. That the search takes its lists as a graph: `Graphs.graph`.
   pub explored : Explored (stepOn bytes) (startOf bytes) g
   -- so is question 13, since there is the lasso; and question 14, since its search ended with potentials (`PotentialsFound`, none).
   -- Then each cycle of arcs earns: `Searches.cycle-earns`.
