@@ -14,7 +14,7 @@ use Rattle.automaton.proofs.Tests.{by-bool}
 use Rattle.automaton.proofs.Reached.{start-is-node}
 use Rattle.sheet.specs.Questions.{checkOf}
 use Rattle.sheet.specs.Decoded.{decodedSheet, refusedSheet, readOf}
-use Rattle.nodes.specs.Numbers.{firstLayout, number, isNumber, stepBy, startNumber}
+use Rattle.nodes.specs.Numbers.{firstLayout, number, isNumber}
 use Rattle.nodes.specs.Meaning.{meaning, layoutOf}
 use Rattle.nodes.specs.Decoded.{decodedMeaning}
 use Rattle.nodes.proofs.Carried.{named, Source, reach-back}
@@ -24,7 +24,7 @@ use Rattle.nodes.proofs.AgreeLaws.{number-steps-agree}
 use Rattle.nodes.proofs.DecodedLaws.{read-agrees}
 use Rattle.walks.specs.Walk.{at}
 use Rattle.contract.specs.Plan.{stepOn, startOf}
-use Rattle.contract.specs.Explored.{Found, Explored, Overfull}
+use Rattle.contract.specs.Explored.{Found, Explored, Overfull, stepRead, startRead}
 
 same-name : (o : Option (Priced ℕ)) → o ≡ Option·map (named (λ x. x)) o
 same-name none = refl
@@ -72,33 +72,29 @@ read-refusal bytes = by-bool (eqb (checkOf bytes) 0)
     (λ f. ap (λ (b : Bool). cond b (decodedSheet bytes) (refusedSheet (checkOf bytes)) .refusal) f)
 
 module _ (bytes : List ℕ) (ok : checkOf bytes ≡ 0) where
-  -- the steps of the decoded sheet, as `step::step_from` answers them, and its start
-  abbrev pub stepRead : ℕ → ℕ → Option (Priced ℕ)
-  stepRead = stepBy firstLayout (decodedMeaning (readOf bytes))
-
-  abbrev pub startRead : ℕ
-  startRead = startNumber firstLayout (decodedMeaning (readOf bytes))
-
-  same-start : startRead ≡ startOf bytes
+  same-start : startRead (readOf bytes) ≡ startOf bytes
   unfolding startNode
   same-start = ap (λ (k : ℕ). number firstLayout (record { location = 0; region = record { whole = replicate k 0; class = replicate k 0 }; corner = 0 }))
       (sym (read-agrees bytes ok .clocks))
 
-  begins : isNumber (layoutOf bytes) (meaning bytes) (startOf bytes) ≡ true
+  abbrev IsNumber : ℕ → Type 0
+  IsNumber x = isNumber (layoutOf bytes) (meaning bytes) x ≡ true
+
+  begins : IsNumber (startOf bytes)
   begins = number-there (layoutOf bytes) (meaning bytes) (room bytes ok) (startNode (meaning bytes)) (start-is-node (meaning bytes) (sound bytes ok))
 
-  keeps : (x code : ℕ) (v : Priced ℕ) → stepOn bytes x code ≡ some v → isNumber (layoutOf bytes) (meaning bytes) x ≡ true
-      → isNumber (layoutOf bytes) (meaning bytes) (v .to) ≡ true
+  keeps : (x code : ℕ) (v : Priced ℕ) → stepOn bytes x code ≡ some v → IsNumber x → IsNumber (v .to)
   keeps = step-to-number (layoutOf bytes) (meaning bytes) (room bytes ok) (sound bytes ok)
 
-  alike : (x code : ℕ) → isNumber (layoutOf bytes) (meaning bytes) x ≡ true → stepOn bytes x code ≡ stepRead x code
+  alike : (x code : ℕ) → IsNumber x → stepOn bytes x code ≡ stepRead (readOf bytes) x code
   alike x code h = number-steps-agree firstLayout (meaning bytes) (decodedMeaning (readOf bytes)) (read-agrees bytes ok) (sound bytes ok) x code
       (node-there firstLayout (meaning bytes) (room bytes ok) x h)
 
-  pub explored-read : {g : Found} → Explored stepRead startRead g → Explored (stepOn bytes) (startOf bytes) g
-  explored-read {g} x = explored-alike (stepOn bytes) stepRead (startOf bytes) (λ x. isNumber (layoutOf bytes) (meaning bytes) x ≡ true) begins keeps alike
-      (subst (λ (s : ℕ). Explored stepRead s g) same-start x)
+  pub explored-read : {g : Found} → Explored (stepRead (readOf bytes)) (startRead (readOf bytes)) g → Explored (stepOn bytes) (startOf bytes) g
+  explored-read {g} x = explored-alike (stepOn bytes) (stepRead (readOf bytes)) (startOf bytes) IsNumber begins keeps alike
+      (subst (λ (s : ℕ). Explored (stepRead (readOf bytes)) s g) same-start x)
 
-  pub overfull-read : {node : List ℕ} → Overfull stepRead startRead node → Overfull (stepOn bytes) (startOf bytes) node
-  overfull-read {node} o = overfull-alike (stepOn bytes) stepRead (startOf bytes) (λ x. isNumber (layoutOf bytes) (meaning bytes) x ≡ true) begins keeps alike
-      (subst (λ (s : ℕ). Overfull stepRead s node) same-start o)
+  pub overfull-read : {node : List ℕ} → Overfull (stepRead (readOf bytes)) (startRead (readOf bytes)) node
+      → Overfull (stepOn bytes) (startOf bytes) node
+  overfull-read {node} o = overfull-alike (stepOn bytes) (stepRead (readOf bytes)) (startOf bytes) IsNumber begins keeps alike
+      (subst (λ (s : ℕ). Overfull (stepRead (readOf bytes)) s node) same-start o)

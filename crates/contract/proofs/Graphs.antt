@@ -123,7 +123,7 @@ module _ (bytes : List ℕ) (ok : checkOf bytes ≡ 0) where
     tos = length-take-le (g .m) (g .to) (room .to) ∙ sym (all-arcs room);
     costs = length-take-le (g .m) (g .cost) (room .cost) ∙ sym (all-arcs room);
     rewards = length-take-le (g .m) (g .reward) (room .reward) ∙ sym (all-arcs room);
-    arc = λ e h. (let s = prices (at (cut g .node) (at (cut g .from) e)) (at (cut g .code) e) _ (x .reachable (at (cut g .from) e) (x .source e h)) (x .sound e h) in
+    arc = λ e h. (let s = prices (at (g .node) (at (cut g .from) e)) (at (cut g .code) e) _ (x .reachable (at (cut g .from) e) (x .source e h)) (x .sound e h) in
         record { source = x .source e h; target = x .target e h; cost-small = s .0; reward-small = s .1 });
   }
     where

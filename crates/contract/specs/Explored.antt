@@ -6,6 +6,9 @@ use Prim.Native.Nat.{ℕ, _≤_, _<_}
 use lib.IntN.{ℤ}
 use Rattle.automaton.specs.Priced.{Priced}
 use Rattle.automaton.specs.Walks.{Reachable}
+use Rattle.sheet.specs.declared.Sheet.{Sheet}
+use Rattle.nodes.specs.Numbers.{firstLayout, stepBy, startNumber}
+use Rattle.nodes.specs.Decoded.{decodedMeaning}
 use Rattle.walks.specs.Walk.{at, atℤ}
 
 -- n nodes and m arcs, at the front of these lists
@@ -50,3 +53,10 @@ module _ (step : ℕ → ℕ → Option (Priced ℕ)) (start : ℕ) where
     pub extra : ℕ
     pub fresh : (a : ℕ) → a < 2048 → at node a ≡ extra → ⊥
     pub extra-reachable : Reachable step start extra
+
+-- the steps of a decoded sheet, on node numbers, and its start
+abbrev pub stepRead : Sheet → ℕ → ℕ → Option (Priced ℕ)
+stepRead s = stepBy firstLayout (decodedMeaning s)
+
+abbrev pub startRead : Sheet → ℕ
+startRead s = startNumber firstLayout (decodedMeaning s)
