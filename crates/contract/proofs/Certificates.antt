@@ -24,8 +24,8 @@ use Rattle.contract.specs.Plan.{Answer, Buffers, LongEnough, SameLengths
 use Rattle.contract.specs.Answers.{Says, accepts, refuses, AcceptedAs, RefusedAs, Holds, Given}
 use Rattle.contract.specs.Certificate.{Certificate, indexOf, hasRatio, falls, isLasso, showsAccepted, showsRefused, certifies}
 use Rattle.contract.proofs.Graphs.{code-below}
-use Rattle.contract.proofs.Certified as Certified
-use Rattle.contract.proofs.Certified.{Closed, or-cases, all-at, lowest-is, equal}
+use Rattle.contract.proofs.Tests as Tests
+use Rattle.contract.proofs.Tests.{Closed, or-cases, all-at, lowest-is, equal}
 use Rattle.contract.proofs.JustWhen.{refusal-unique}
 use Rattle.contract.proofs.Rising.{same-count}
 
@@ -36,7 +36,7 @@ module _ (bytes : List ℕ) where
   -- a lasso whose cycle is as tested
   lasso : (t : ℤ → ℕ → Bool) (c : Certificate) → isLasso (stepOn bytes) (startOf bytes) t (c .stem) (c .cycle) ≡ true
       → Closed (stepOn bytes) (startOf bytes) codes t
-  lasso t c = Certified.lasso (stepOn bytes) (startOf bytes) codes t (c .stem) (c .cycle)
+  lasso t c = Tests.lasso (stepOn bytes) (startOf bytes) codes t (c .stem) (c .cycle)
 
   some-cycle : (t : ℤ → ℕ → Bool) → Closed (stepOn bytes) (startOf bytes) codes t → SomeCycle (stepOn bytes) (startOf bytes)
   some-cycle t o = record { cost = o .cost; reward = o .reward; cycle = o .cycle }
@@ -50,17 +50,17 @@ module _ (bytes : List ℕ) where
       let all = all-at _ h 0 (omega arith) in
       let o = lasso (hasRatio p q) c (all-at _ h 5 (omega arith)) in
       record {
-        judged = λ b l. explored l ok (all-yes refl (Certified.not-many step start codes (c .nodes) all) (some-cycle (hasRatio p q) o)
-            (λ i. Certified.no-cycle step start codes (c .nodes) all (λ r. eqb r 0) (λ r. r ≡ 0) no-reward (λ r e. eq-eqb r 0 e) (c .ranks)
+        judged = λ b l. explored l ok (all-yes refl (Tests.not-many step start codes (c .nodes) all) (some-cycle (hasRatio p q) o)
+            (λ i. Tests.no-cycle step start codes (c .nodes) all (λ r. eqb r 0) (λ r. r ≡ 0) no-reward (λ r e. eq-eqb r 0 e) (c .ranks)
             (all-at _ h 6 (omega arith)) (i .cost) 0 refl (i .cycle)));
         ratio = least-ratio step start p q (λ z. atℤ (c .potentials) (indexOf (c .nodes) z))
-            (Certified.feasible step start codes (c .nodes) all p q (c .potentials) (all-at _ h 4 (omega arith)))
+            (Tests.feasible step start codes (c .nodes) all p q (c .potentials) (all-at _ h 4 (omega arith)))
             (lowest-is p q (all-at _ h 3 (omega arith))) (o .cost) (o .reward) (o .cycle)
             (ltb-true 0 (o .reward) (all-at _ (o .passes) 0 (omega arith)))
             (equal (pos q *ℤ o .cost) (p *ℤ pos (o .reward)) (all-at _ (o .passes) 1 (omega arith)) (all-at _ (o .passes) 2 (omega arith)));
         nodes = c .nodes;
         node-list = subst (λ (k : ℕ). NodeList step start k (c .nodes)) (eqb-true (length (c .nodes)) n (all-at _ h 1 (omega arith)))
-            (Certified.node-list step start codes (c .nodes) all (c .walks) (all-at _ h 2 (omega arith)));
+            (Tests.node-list step start codes (c .nodes) all (c .walks) (all-at _ h 2 (omega arith)));
       }
 
   refused : (r : ℕ) (c : Certificate) → checkOf bytes ≡ 0 → showsRefused (stepOn bytes) (startOf bytes) r c ≡ true → RefusedAs bytes r
@@ -71,11 +71,11 @@ module _ (bytes : List ℕ) where
       let all = all-at _ h 0 (omega arith) in
       let fall = falls step start (λ r. true) (c .nodes) (c .ranks) in
       let idle = isLasso step start (λ cost r. eqb r 0) (c .stem) (c .cycle) in
-      let few = Certified.not-many step start codes (c .nodes) all in
+      let few = Tests.not-many step start codes (c .nodes) all in
       or-cases (eqb r 13 && fall) (eqb r 14 && idle) (all-at _ h 1 (omega arith))
       (λ t. let e : r ≡ 13 = eqb-true r 13 (&&-left (eqb r 13) fall t) in record {
         some-number = omega arith;
-        judged = λ b l. explored l ok (no-cycle e few (λ o. Certified.no-cycle step start codes (c .nodes) all (λ r. true) (λ r. Unit {0}) every-reward
+        judged = λ b l. explored l ok (no-cycle e few (λ o. Tests.no-cycle step start codes (c .nodes) all (λ r. true) (λ r. Unit {0}) every-reward
             (λ r u. refl) (c .ranks) (&&-right (eqb r 13) fall t) (o .cost) (o .reward) tt (o .cycle)));
       })
       (λ t. let e : r ≡ 14 = eqb-true r 14 (&&-left (eqb r 14) idle t) in

@@ -62,23 +62,28 @@ climbing n k w cycle = record {
 abbrev nothing : Certificate
 nothing = record { nodes = []; potentials = []; ranks = []; stem = []; cycle = []; walks = [] }
 
+-- a unit of delay, and the edge with this code from clock 1
+abbrev around : ℕ → List ℕ
+around edge = 33 ∷ 32 ∷ 33 ∷ edge ∷ []
+
+-- in the order of the table
 certificates : List Certificate
-certificates = climbing 7 2 1 (33 ∷ 32 ∷ 33 ∷ 0 ∷ [])
+certificates = climbing 7 2 1 (around 0)
     ∷ climbing 7 2 1 (33 ∷ 32 ∷ 33 ∷ 33 ∷ 0 ∷ [])
-    ∷ climbing 6 2 1 (33 ∷ 32 ∷ 33 ∷ 0 ∷ [])
+    ∷ climbing 6 2 1 (around 0)
     ∷ climbing 3 1 1 []
     ∷ climbing 1 0 1 []
     ∷ nothing
-    ∷ climbing 7 2 2 (33 ∷ 32 ∷ 33 ∷ 0 ∷ [])
-    ∷ climbing 7 2 1 (33 ∷ 32 ∷ 33 ∷ 1 ∷ [])
+    ∷ climbing 7 2 2 (around 0)
+    ∷ climbing 7 2 1 (around 1)
     ∷ climbing 7 2 1 []
-    ∷ climbing 7 2 1 (33 ∷ 32 ∷ 33 ∷ 0 ∷ [])
+    ∷ climbing 7 2 1 (around 0)
     ∷ nothing
     ∷ nothing
-    ∷ climbing 37 12 1 (33 ∷ 32 ∷ 33 ∷ 0 ∷ [])
+    ∷ climbing 37 12 1 (around 0)
     ∷ nothing
     ∷ climbing 4 1 1 []
-    ∷ climbing 7 2 1 (33 ∷ 32 ∷ 33 ∷ 0 ∷ [])
+    ∷ climbing 7 2 1 (around 0)
     ∷ nothing
     ∷ nothing
     ∷ nothing

@@ -15,7 +15,7 @@ use Rattle.automaton.proofs.Chains.{some-inj}
 use Rattle.walks.specs.Walk as Graph
 use Rattle.walks.specs.Walk.{at}
 use Rattle.walks.proofs.Walks.{walk-append, walk-arc}
-use Rattle.walks.proofs.Lassos as Arcs
+use Rattle.walks.proofs.Lassos as GraphLassos
 use Rattle.contract.specs.Accepted.{Lasso}
 use Rattle.contract.specs.Explored.{Found, Explored}
 use Rattle.contract.proofs.Arcs.{costOf, rewardOf, codesOf, walk-of, start-walk}
@@ -38,7 +38,7 @@ front-walk F T m a (e ∷ l) b zero w h = sym (w .1)
 front-walk F T m a (e ∷ l) b (suc i) w h = (w .0, w .1, front-walk F T m (at T e) l b i (w .2) (le-of-suc-le-suc h))
 
 module _ {step : ℕ → ℕ → Option (Priced ℕ)} {start : ℕ} {g : Found} (x : Explored step start g) (stem cycle : List ℕ)
-    (o : Arcs.Lasso (g .from) (g .to) (g .m) stem cycle) where
+    (o : GraphLassos.Lasso (g .from) (g .to) (g .m) stem cycle) where
   abbrev arcs : List ℕ
   arcs = stem ++ cycle
 

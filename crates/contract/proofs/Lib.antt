@@ -12,6 +12,6 @@ pub mod Graphs
 pub mod JustWhen
 pub mod Rising
 pub mod Unique
-pub mod Certified
+pub mod Tests
 pub mod Certificates
 pub mod ChangesHold
