@@ -5,14 +5,14 @@ use borrow.Author.Needs.{needs}
 use Rattle.step.proofs.location_at.Statement.{statement}
 use Rattle.step.proofs.location_at.Tie as tie
 
-bits-requires : tie.Need-bits-requires
-bits-requires c κs = search needs
+location-in-requires : tie.Need-location-in-requires
+location-in-requires c κs = search needs
 
 location-of-requires : tie.Need-location-of-requires
 location-of-requires c κs = search needs
 
 returns : tie.Need-returns
-returns c = c .location-of .ensures ∙ ap (locationIn (c .before .before .before .args .sheet)) (c .before .bits .ensures)
+returns c = c .location-of .ensures ∙ ap (locationIn (c .before .before .before .args .sheet)) (c .before .location-in .ensures)
 
 pub location-at-spec : {M : Type 1} → statement M
-location-at-spec = tie.close (tie.spec bits-requires location-of-requires returns)
+location-at-spec = tie.close (tie.spec location-in-requires location-of-requires returns)
