@@ -1,0 +1,24 @@
+-- -1 less a number below 0 is not below 0.
+use native.Mathlib.Omega.{arith}
+use Rattle.step_cases.proofs.SignLaws.{cast, size-of, down-fits, below}
+use borrow.Author.Needs.{needs}
+use Rattle.step_cases.proofs.below_zero.Statement.{statement}
+use Rattle.step_cases.proofs.below_zero.Tie as tie
+
+sub-result : tie.Need-sub-result
+sub-result c = down-fits (c .before .args .z) (c .before .fits .z) (c .if1 .taken)
+
+cast-result : tie.Need-cast-result
+cast-result c = cast _ (below (c .before .args .z) (c .before .fits .z) (c .if1 .taken))
+
+add-result : tie.Need-add-result
+add-result c = omega (arith, size-of _ (below (c .before .args .z) (c .before .fits .z) (c .if1 .taken)), below (c .before .args .z) (c .before .fits .z) (c .if1 .taken) .small)
+
+returns : tie.Need-returns
+returns c = search needs
+
+returns-2 : tie.Need-returns-2
+returns-2 c = search needs
+
+pub below-zero-spec : {M : Type 1} → statement M
+below-zero-spec = tie.close (tie.spec sub-result cast-result add-result returns returns-2)

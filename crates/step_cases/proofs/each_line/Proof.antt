@@ -1,0 +1,59 @@
+-- The place is at most one past the end.
+use Prim.Native.Nat.{_+_, _-_, _≤_}
+use borrow.Author.Needs.{needs}
+use lib.ListN.{length}
+use Rattle.step_cases.proofs.each_line.Statement.{statement}
+use Rattle.step_cases.proofs.each_line.Tie as tie
+
+abbrev Inv-loop : tie.InvT-loop
+Inv-loop s at₀ at = at ≤ length s + 1
+
+abbrev μ-loop : tie.MeasureT-loop
+μ-loop s at₀ at = (length s + 1) - at
+
+loop-holds : tie.Need-loop-holds Inv-loop μ-loop
+loop-holds c = search needs
+
+find-requires : tie.Need-find-requires Inv-loop μ-loop
+find-requires c κs = search needs
+
+sub-one : tie.Need-sub-one Inv-loop μ-loop
+sub-one c = search needs
+
+part-one-start : tie.Need-part-one-start Inv-loop μ-loop
+part-one-start c = search needs
+
+part-one-end : tie.Need-part-one-end Inv-loop μ-loop
+part-one-end c = search needs
+
+one-requires : tie.Need-one-requires Inv-loop μ-loop
+one-requires c κs = search needs
+
+add-at : tie.Need-add-at Inv-loop μ-loop
+add-at c = search needs
+
+loop-less : tie.Need-loop-less Inv-loop μ-loop
+loop-less c = search needs
+
+loop-again : tie.Need-loop-again Inv-loop μ-loop
+loop-again c = search needs
+
+returns : tie.Need-returns Inv-loop μ-loop
+returns c = search needs
+
+pub each-line-spec : {M : Type 1} → statement M
+each-line-spec =
+    tie.close
+    (tie.spec
+    Inv-loop
+    μ-loop
+    loop-holds
+    find-requires
+    sub-one
+    part-one-start
+    part-one-end
+    one-requires
+    add-at
+    loop-less
+    loop-again
+    returns)
