@@ -1,0 +1,113 @@
+-- A decoded sheet means what its bytes mean, and a step needs no more of it than the records at hand.
+use mathlib.Core.Path.{_≡_, refl, sym, ap, _∙_, subst}
+use mathlib.Core.Bool.{Bool, cond}
+use mathlib.Core.List.{List}
+use mathlib.Core.Option.{none, Option·getD, Option·map}
+use Prim.Native.Nat.{ℕ, zero, suc, _+_, _≤_, _<_}
+use native.Mathlib.Nat.{add-zero}
+use native.Mathlib.Omega.{arith}
+use borrow.Author.Tests.{eq-eqb, lt-ltb, lt-leb}
+use lib.Dec.{eqb}
+use lib.ListN.{getD}
+use Rattle.automaton.specs.Automaton.{inBounds, inGuards}
+use Rattle.automaton.specs.Nodes.{Node}
+use Rattle.automaton.specs.Steps.{edgeStep, unitStep, moveStep, step}
+use Rattle.automaton.proofs.Codes.{step-edge}
+use Rattle.sheet.specs.Maps.{stands}
+use Rattle.sheet.specs.Fields.{first}
+use Rattle.sheet.specs.Records.{fieldAt, recordAt, locationAt, edgeAt, locationsIn, clocksIn, edgesIn}
+use Rattle.sheet.specs.Questions.{checkOf}
+use Rattle.sheet.specs.Decoded.{clockBytes, locationOf, edgeOf, blankLocation, blankEdge, locationsOf, edgesOf, decodedSheet, refusedSheet, readOf}
+use Rattle.sheet.specs.declared.fields.Kind.{Kind}
+use Rattle.sheet.specs.declared.fields.Kind.the-variants.{LocationRecord, EdgeRecord}
+use Rattle.sheet.specs.declared.Location.{Location}
+use Rattle.sheet.specs.declared.Edge.{Edge}
+use Rattle.sheet.specs.declared.Sheet.{Sheet}
+use Rattle.sheet.proofs.AcceptedLaws.{header}
+use Rattle.sheet.proofs.DecodeLaws.{filled-at}
+use Rattle.nodes.specs.Numbers.{Layout, number, nodeOf, stepBy}
+use Rattle.nodes.specs.Meaning.{meaning}
+use Rattle.nodes.specs.Decoded.{fewClocks, guardOf, boundIn, lowerIn, upperIn, locationIn, edgeIn, decodedMeaning, alone}
+use Rattle.nodes.proofs.Carried.{named}
+use Rattle.nodes.proofs.AgreeLaws.{Agree}
+use Rattle.nodes.proofs.CheckedLaws.{guard-value}
+
+clock-byte : (kind : Kind) (s : List ℕ) (at b d j : ℕ) → j < 3 → Option·getD (fieldAt kind s at (b + j)) d ≡ getD (clockBytes kind s at b d) j 0
+clock-byte kind s at b d zero h = ap (λ (x : ℕ). Option·getD (fieldAt kind s at x) d) (add-zero b)
+clock-byte kind s at b d (suc zero) h = refl
+clock-byte kind s at b d (suc (suc zero)) h = refl
+clock-byte kind s at b d (suc (suc (suc j))) h = absurd (omega arith)
+
+pub read-passed : (s : List ℕ) → checkOf s ≡ 0 → readOf s ≡ decodedSheet s
+unfolding readOf
+read-passed s ok = ap (λ (t : Bool). cond t (decodedSheet s) (refusedSheet (checkOf s))) (eq-eqb (checkOf s) 0 ok)
+
+module _ (s : List ℕ) (ok : checkOf s ≡ 0) where
+  location-there : (l : ℕ) → l < locationsIn s → locationIn (decodedSheet s) l ≡ locationOf s (locationAt s l)
+  unfolding locationsOf
+  location-there l h = filled-at (λ i. locationOf s (locationAt s i)) blankLocation 12 (locationsIn s) l (header s ok .locations .1) h
+
+  edge-there : (e : ℕ) → e < edgesIn s → edgeIn (decodedSheet s) e ≡ edgeOf s (edgeAt s e)
+  unfolding edgesOf
+  edge-there e h = filled-at (λ i. edgeOf s (recordAt EdgeRecord s (locationAt s (locationsIn s)) i)) blankEdge 32 (edgesIn s) e (header s ok .edges) h
+
+  three : clocksIn s ≤ 3
+  three = header s ok .clocks .1
+
+  decoded-agrees : Agree (meaning s) (decodedMeaning (decodedSheet s))
+  unfolding meaning decodedMeaning
+  decoded-agrees = record {
+    locations = refl;
+    clocks = omega (arith, three);
+    edges = refl;
+    bound = λ l j h i. clock-byte LocationRecord s (locationAt s l) (first .bound) 0 j (omega (arith, three))
+        ∙ sym (ap (λ (x : Location). boundIn x j) (location-there l h));
+    costRate = λ l h. sym (ap (λ (x : Location). x .cost) (location-there l h));
+    rewardRate = λ l h. sym (ap (λ (x : Location). x .reward) (location-there l h));
+    source = λ e h. sym (ap (λ (x : Edge). x .source) (edge-there e h));
+    target = λ e h. sym (ap (λ (x : Edge). x .target) (edge-there e h));
+    lower = λ e j h i. clock-byte EdgeRecord s (edgeAt s e) (first .lower) 0 j (omega (arith, three)) ∙ sym (ap (λ (x : Edge). lowerIn x j) (edge-there e h));
+    upper = λ e j h i. guard-value s ok e j h i ∙ ap guardOf (clock-byte EdgeRecord s (edgeAt s e) (first .upper) 255 j (omega (arith, three)))
+        ∙ sym (ap (λ (x : Edge). upperIn x j) (edge-there e h));
+    reset = λ e j h i. sym (ap (λ (x : Edge). stands (x .reset) j) (edge-there e h));
+    cost = λ e h. sym (ap (λ (x : Edge). x .cost) (edge-there e h));
+    reward = λ e h. sym (ap (λ (x : Edge). x .reward) (edge-there e h));
+  }
+
+  -- stepping what was read is stepping what the bytes mean
+  pub read-agrees : Agree (meaning s) (decodedMeaning (readOf s))
+  read-agrees = subst (λ (d : Sheet). Agree (meaning s) (decodedMeaning d)) (sym (read-passed s ok)) decoded-agrees
+
+-- ---- the records at hand
+
+module _ (s : Sheet) (u : Node) where
+  edge-alone : (e : ℕ) → e < s .edges → edgeStep (decodedMeaning s) u e ≡ edgeStep (alone (s .clocks) (edgeIn s e) (locationIn s (edgeIn s e .target))) u 0
+  unfolding edgeStep decodedMeaning alone inBounds inGuards
+  edge-alone e h = simp (lt-ltb e (s .edges) h)
+
+  unit-alone : (e : Edge) → unitStep (decodedMeaning s) u ≡ unitStep (alone (s .clocks) e (locationIn s (u .location))) u
+  unfolding unitStep decodedMeaning alone
+  unit-alone e = refl
+
+  move-alone : (e : Edge) → moveStep (decodedMeaning s) u ≡ moveStep (alone (s .clocks) e (locationIn s (u .location))) u
+  unfolding moveStep decodedMeaning alone inBounds
+  move-alone e = refl
+
+-- and on numbers
+
+module _ (y : Layout) (s : Sheet) (x : ℕ) where
+  pub edge-alone-number : (e : ℕ) → e ≤ 31 → e < s .edges
+      → stepBy y (decodedMeaning s) x e ≡ stepBy y (alone (s .clocks) (edgeIn s e) (locationIn s (edgeIn s e .target))) x 0
+  unfolding stepBy step decodedMeaning alone
+  edge-alone-number e h l =
+      let u = nodeOf y (fewClocks (s .clocks)) x in
+      ap (Option·map (named (number y))) (step-edge (decodedMeaning s) u e h ∙ edge-alone s u e l)
+
+  pub delay-alone-number : (e : Edge) (code : ℕ) → 31 < code
+      → stepBy y (decodedMeaning s) x code ≡ stepBy y (alone (s .clocks) e (locationIn s (nodeOf y (fewClocks (s .clocks)) x .location))) x code
+  unfolding stepBy step decodedMeaning alone
+  delay-alone-number e code h =
+      let u = nodeOf y (fewClocks (s .clocks)) x in
+      let B = alone (s .clocks) e (locationIn s (u .location)) in
+      simp (lt-leb code 31 h) (λ i. Option·map (named (number y))
+      (cond (eqb code 32) (unit-alone s u e i) (cond (eqb code 33) (move-alone s u e i) none)))

@@ -1,0 +1,73 @@
+-- The automaton that a decoded sheet means, whatever stands in it, and the ones of its records.
+use mathlib.Core.Bool.{not}
+use mathlib.Core.Option.{Option}
+use Prim.Native.Nat.{ℕ, min}
+use lib.Dec.{eqb}
+use lib.ListN.{getD}
+use Rattle.automaton.specs.Tests.{only}
+use Rattle.automaton.specs.Automaton.{Automaton}
+use Rattle.sheet.specs.Maps.{stands}
+use Rattle.sheet.specs.Fields.{first}
+use Rattle.sheet.specs.Decoded.{blankLocation, blankEdge}
+use Rattle.sheet.specs.declared.Location.{Location}
+use Rattle.sheet.specs.declared.Edge.{Edge}
+use Rattle.sheet.specs.declared.Sheet.{Sheet}
+
+-- edition 1 has no more clocks than these
+abbrev pub fewClocks : ℕ → ℕ
+fewClocks k = min k (first .clocks)
+
+-- an absent upper guard is 255
+abbrev pub guardOf : ℕ → Option ℕ
+guardOf u = only (not (eqb u 255)) u
+
+abbrev pub boundIn : Location → ℕ → ℕ
+boundIn l j = getD (l .upper) j 0
+
+abbrev pub lowerIn : Edge → ℕ → ℕ
+lowerIn e j = getD (e .lower) j 0
+
+abbrev pub upperIn : Edge → ℕ → Option ℕ
+upperIn e j = guardOf (getD (e .upper) j 0)
+
+abbrev pub locationIn : Sheet → ℕ → Location
+locationIn s l = getD (s .location) l blankLocation
+
+abbrev pub edgeIn : Sheet → ℕ → Edge
+edgeIn s e = getD (s .edge) e blankEdge
+
+unfoldable pub decodedMeaning : Sheet → Automaton
+decodedMeaning s = record {
+  locations = s .locations;
+  clocks = fewClocks (s .clocks);
+  edges = s .edges;
+  bound = λ l. boundIn (locationIn s l);
+  costRate = λ l. locationIn s l .cost;
+  rewardRate = λ l. locationIn s l .reward;
+  source = λ e. edgeIn s e .source;
+  target = λ e. edgeIn s e .target;
+  lower = λ e. lowerIn (edgeIn s e);
+  upper = λ e. upperIn (edgeIn s e);
+  reset = λ e. stands (edgeIn s e .reset);
+  cost = λ e. edgeIn s e .cost;
+  reward = λ e. edgeIn s e .reward;
+}
+
+-- So many clocks, one edge, by the code 0, and one location's record for all locations. A step needs no more of a sheet: an edge needs its own
+-- record and its target's, a delay its location's.
+unfoldable pub alone : ℕ → Edge → Location → Automaton
+alone k e l = record {
+  locations = 1;
+  clocks = fewClocks k;
+  edges = 1;
+  bound = λ i. boundIn l;
+  costRate = λ i. l .cost;
+  rewardRate = λ i. l .reward;
+  source = λ i. e .source;
+  target = λ i. e .target;
+  lower = λ i. lowerIn e;
+  upper = λ i. upperIn e;
+  reset = λ i. stands (e .reset);
+  cost = λ i. e .cost;
+  reward = λ i. e .reward;
+}

@@ -1,0 +1,116 @@
+-- Tests of the first clocks, one turn of a loop after the other.
+use mathlib.Core.Path.{_≡_, refl, sym, ap, ap₂, _∙_}
+use mathlib.Core.Bool.{Bool, true, false, cond, _&&_, _||_}
+use mathlib.Core.List.{List, [], _∷_, zipWith}
+use Prim.Native.Nat.{ℕ, zero, suc, _+_, _≤_, _<_}
+use native.Mathlib.Numerals.{add-one}
+use native.Mathlib.Omega.{arith}
+use borrow.Author.Tests.{eq-eqb, ne-eqb}
+use lib.Dec.{eqb}
+use lib.ListN.{length, getD, take}
+use lib.Seq.{take-all}
+use Rattle.automaton.specs.Tests.{occurs, every}
+use Rattle.automaton.specs.Ranks.{rank, mask}
+use Rattle.automaton.proofs.Tests.{&&-left, &&-right, &&-intro}
+use Rattle.automaton.proofs.Ranks.{rank-in, rank-out}
+
+pub every-none : (p : ℕ → ℕ → Bool) (xs : List ℕ) → every p (take 0 xs) ≡ true
+unfolding every
+every-none p xs = refl
+
+no-more : (b : Bool) → b && false ≡ false
+no-more true = refl
+no-more false = refl
+
+every-suc : (p : ℕ → ℕ → Bool) (xs : List ℕ) (j : ℕ) → j < length xs → every p (take j xs) ≡ true → p j (getD xs j 0) ≡ true
+    → every p (take (suc j) xs) ≡ true
+unfolding every
+every-suc p [] j h e t = absurd (omega arith)
+every-suc p (x ∷ xs) zero h e t = &&-intro t refl
+every-suc p (x ∷ xs) (suc j) h e t = &&-intro (&&-left (p 0 x) (every (λ i. p (suc i)) (take j xs)) e)
+    (every-suc (λ i. p (suc i)) xs j (omega arith) (&&-right (p 0 x) (every (λ i. p (suc i)) (take j xs)) e) t)
+
+pub every-more : (p : ℕ → ℕ → Bool) (xs : List ℕ) (j : ℕ) → j < length xs → every p (take j xs) ≡ true → p j (getD xs j 0) ≡ true
+    → every p (take (j + 1) xs) ≡ true
+every-more p xs j h e t = ap (λ (n : ℕ). every p (take n xs)) (add-one j) ∙ every-suc p xs j h e t
+
+pub every-fails : (p : ℕ → ℕ → Bool) (xs : List ℕ) (k j : ℕ) → j < k → j < length xs → p j (getD xs j 0) ≡ false → every p (take k xs) ≡ false
+unfolding every
+every-fails p xs zero j h l t = absurd (omega arith)
+every-fails p [] (suc k) j h l t = absurd (omega arith)
+every-fails p (x ∷ xs) (suc k) zero h l t = ap (λ (b : Bool). b && every (λ i. p (suc i)) (take k xs)) t
+every-fails p (x ∷ xs) (suc k) (suc j) h l t =
+    ap (λ (b : Bool). p 0 x && b) (every-fails (λ i. p (suc i)) xs k j (omega arith) (omega arith) t) ∙ no-more (p 0 x)
+
+-- those that were asked are all
+pub every-all : (p : ℕ → ℕ → Bool) (xs : List ℕ) (k j : ℕ) → j ≤ k → k ≤ j → every p (take j xs) ≡ true → every p (take k xs) ≡ true
+every-all p xs k j h l e = let q : k ≡ j = omega arith in ap (λ (n : ℕ). every p (take n xs)) q ∙ e
+
+-- ---- a value that occurs
+
+some-more : (b : Bool) → b || true ≡ true
+some-more true = refl
+some-more false = refl
+
+pub occurs-found : (v : ℕ) (xs : List ℕ) (k j : ℕ) → j < k → j < length xs → v ≡ getD xs j 0 → occurs v (take k xs) ≡ true
+occurs-found v xs zero j h l e = absurd (omega arith)
+occurs-found v [] (suc k) j h l e = absurd (omega arith)
+occurs-found v (x ∷ xs) (suc k) zero h l e = ap (λ (b : Bool). b || occurs v (take k xs)) (eq-eqb v x e)
+occurs-found v (x ∷ xs) (suc k) (suc j) h l e =
+    ap (λ (b : Bool). eqb v x || b) (occurs-found v xs k j (omega arith) (omega arith) e) ∙ some-more (eqb v x)
+
+occurs-suc : (v : ℕ) (xs : List ℕ) (j : ℕ) → j < length xs → occurs v (take j xs) ≡ false → (v ≡ getD xs j 0 → ⊥) → occurs v (take (suc j) xs) ≡ false
+occurs-suc v [] j h e n = absurd (omega arith)
+occurs-suc v (x ∷ xs) zero h e n = ap (λ (b : Bool). b || false) (ne-eqb v x n)
+occurs-suc v (x ∷ xs) (suc j) h e n = both (eqb v x) e (λ o. occurs-suc v xs j (omega arith) o n)
+  where
+    both : (b : Bool) → b || occurs v (take j xs) ≡ false → (occurs v (take j xs) ≡ false → occurs v (take (suc j) xs) ≡ false)
+        → b || occurs v (take (suc j) xs) ≡ false
+    both true e f = e
+    both false e f = f e
+
+pub occurs-more : (v : ℕ) (xs : List ℕ) (j : ℕ) → j < length xs → occurs v (take j xs) ≡ false → (v ≡ getD xs j 0 → ⊥)
+    → occurs v (take (j + 1) xs) ≡ false
+occurs-more v xs j h e n = ap (λ (m : ℕ). occurs v (take m xs)) (add-one j) ∙ occurs-suc v xs j h e n
+
+pub occurs-all : (v : ℕ) (xs : List ℕ) (k j : ℕ) → j ≤ k → k ≤ j → occurs v (take j xs) ≡ false → occurs v (take k xs) ≡ false
+occurs-all v xs k j h l e = let q : k ≡ j = omega arith in ap (λ (n : ℕ). occurs v (take n xs)) q ∙ e
+
+-- ---- ranks
+
+module _ (xs : List ℕ) (three : length xs ≡ 3) (v n : ℕ) (so-far : n ≡ rank xs v) where
+  first-three : occurs (v + 1) (take 3 xs) ≡ occurs (suc v) xs
+  first-three = ap₂ occurs (add-one v) (take-all 3 xs (omega arith))
+
+  pub rank-counts : occurs (v + 1) (take 3 xs) ≡ true → n + 1 ≡ rank xs (v + 1)
+  rank-counts o = add-one n ∙ ap suc so-far ∙ sym (ap (rank xs) (add-one v) ∙ rank-in xs v (sym first-three ∙ o))
+
+  pub rank-passes : occurs (v + 1) (take 3 xs) ≡ false → n ≡ rank xs (v + 1)
+  rank-passes o = so-far ∙ sym (ap (rank xs) (add-one v) ∙ rank-out xs v (sym first-three ∙ o))
+
+-- ---- two lists entry by entry
+
+pub zip-at : (f : ℕ → ℕ → ℕ) (xs ys : List ℕ) (j : ℕ) → j < length xs → j < length ys → getD (zipWith f xs ys) j 0 ≡ f (getD xs j 0) (getD ys j 0)
+unfolding zipWith
+zip-at f [] ys j h l = absurd (omega arith)
+zip-at f (x ∷ xs) [] j h l = absurd (omega arith)
+zip-at f (x ∷ xs) (y ∷ ys) zero h l = refl
+zip-at f (x ∷ xs) (y ∷ ys) (suc j) h l = zip-at f xs ys j (omega arith) (omega arith)
+
+pub zip-long : (f : ℕ → ℕ → ℕ) (xs ys : List ℕ) (n : ℕ) → length xs ≡ n → length ys ≡ n → length (zipWith f xs ys) ≡ n
+unfolding zipWith
+zip-long f [] ys n h l = h
+zip-long f (x ∷ xs) [] n h l = absurd (omega arith)
+zip-long f (x ∷ xs) (y ∷ ys) zero h l = absurd (omega arith)
+zip-long f (x ∷ xs) (y ∷ ys) (suc n) h l = ap suc (zip-long f xs ys n (omega arith) (omega arith))
+
+-- a reset raises nothing
+pub mask-below : (b : ℕ) (r : ℕ → Bool) (xs : List ℕ) → ((j : ℕ) → getD xs j 0 < b) → (j : ℕ) → getD (mask r xs) j 0 < b
+unfolding mask
+mask-below b r [] h j = h j
+mask-below b r (x ∷ xs) h zero = at (r 0)
+  where
+    at : (t : Bool) → cond t 0 x < b
+    at true = omega (arith, h 0)
+    at false = h 0
+mask-below b r (x ∷ xs) h (suc j) = mask-below b (λ i. r (suc i)) xs (λ i. h (suc i)) j

@@ -1,0 +1,8 @@
+pub mod TableLaws
+pub mod BitLaws
+pub mod ClockLaws
+pub mod ArrayLaws
+pub mod NodeLaws
+pub mod EdgeLaws
+pub mod DelayLaws
+pub mod SheetLaws

@@ -1,0 +1,89 @@
+-- Clock by clock.
+use mathlib.Core.Path.{_≡_, refl, ap₂, _∙_}
+use mathlib.Core.List.{_∷_}
+use borrow.Author.Needs.{needs}
+use lib.ListN.{length}
+use Rattle.region.proofs.ArrayLaws.{carry-three, class-three}
+use Rattle.region.proofs.delays.after_carry.Statement.{statement}
+use Rattle.region.proofs.delays.after_carry.Tie as tie
+
+element-copy-out-carry-whole : tie.Need-element-copy-out-carry-whole
+element-copy-out-carry-whole c = search needs
+
+element-copy-out-carry-whole-2 : tie.Need-element-copy-out-carry-whole-2
+element-copy-out-carry-whole-2 c = search needs
+
+carry-whole-requires : tie.Need-carry-whole-requires
+carry-whole-requires c κs = c .before .before .before .pre 0
+
+element-copy-out-carry-whole-3 : tie.Need-element-copy-out-carry-whole-3
+element-copy-out-carry-whole-3 c = search needs
+
+element-copy-out-carry-whole-4 : tie.Need-element-copy-out-carry-whole-4
+element-copy-out-carry-whole-4 c = search needs
+
+carry-whole-requires-2 : tie.Need-carry-whole-requires-2
+carry-whole-requires-2 c κs = c .before .before .before .before .before .before .pre 1
+
+element-copy-out-carry-whole-5 : tie.Need-element-copy-out-carry-whole-5
+element-copy-out-carry-whole-5 c = search needs
+
+element-copy-out-carry-whole-6 : tie.Need-element-copy-out-carry-whole-6
+element-copy-out-carry-whole-6 c = search needs
+
+carry-whole-requires-3 : tie.Need-carry-whole-requires-3
+carry-whole-requires-3 c κs = c .before .before .before .before .before .before .before .before .before .pre 2
+
+element-copy-out-carry-class : tie.Need-element-copy-out-carry-class
+element-copy-out-carry-class c = search needs
+
+carry-class-requires : tie.Need-carry-class-requires
+carry-class-requires c κs = search needs
+
+element-copy-out-carry-class-2 : tie.Need-element-copy-out-carry-class-2
+element-copy-out-carry-class-2 c = search needs
+
+carry-class-requires-2 : tie.Need-carry-class-requires-2
+carry-class-requires-2 c κs = search needs
+
+element-copy-out-carry-class-3 : tie.Need-element-copy-out-carry-class-3
+element-copy-out-carry-class-3 c = search needs
+
+carry-class-requires-3 : tie.Need-carry-class-requires-3
+carry-class-requires-3 c κs = search needs
+
+returns : tie.Need-returns
+returns c =
+    let hs = c .before .before .before .before .before .before .before .before .before .before .before .before .before .before .before .before .args .node .region .whole in
+    let ks = c .before .before .before .before .before .before .before .before .before .before .before .before .before .before .before .before .args .node .region .class in
+    let h : length hs ≡ 3 = search needs in
+    let k : length ks ≡ 3 = search needs in
+    λ i. record {
+      location = c .before .before .before .before .before .before .before .before .before .before .before .before .before .before .before .before .args .node .location;
+      region = record {
+        whole = (ap₂ _∷_ (c .before .before .before .before .before .before .before .before .before .before .before .before .carry-whole .ensures) (ap₂ _∷_ (c .before .before .before .before .before .before .before .before .before .carry-whole2 .ensures) (ap₂ _∷_ (c .before .before .before .before .before .before .carry-whole3 .ensures) refl)) ∙ carry-three (c .before .before .before .before .before .before .before .before .before .before .before .before .before .before .before .before .args .g) hs ks h k) i;
+        class = (ap₂ _∷_ (c .before .before .before .before .carry-class .ensures) (ap₂ _∷_ (c .before .before .carry-class2 .ensures) (ap₂ _∷_ (c .carry-class3 .ensures) refl)) ∙ class-three (c .before .before .before .before .before .before .before .before .before .before .before .before .before .before .before .before .args .g) ks k) i;
+      };
+      corner = c .before .before .before .before .before .before .before .before .before .before .before .before .before .before .before .before .args .node .corner;
+    }
+
+pub after-carry-spec : {M : Type 1} → statement M
+after-carry-spec =
+    tie.close
+    (tie.spec
+    element-copy-out-carry-whole
+    element-copy-out-carry-whole-2
+    carry-whole-requires
+    element-copy-out-carry-whole-3
+    element-copy-out-carry-whole-4
+    carry-whole-requires-2
+    element-copy-out-carry-whole-5
+    element-copy-out-carry-whole-6
+    carry-whole-requires-3
+    element-copy-out-carry-class
+    carry-class-requires
+    element-copy-out-carry-class-2
+    carry-class-requires-2
+    element-copy-out-carry-class-3
+    carry-class-requires-3
+    returns)

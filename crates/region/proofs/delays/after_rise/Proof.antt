@@ -1,0 +1,51 @@
+-- Clock by clock.
+use mathlib.Core.Path.{refl, ap₂}
+use mathlib.Core.List.{_∷_}
+use native.Mathlib.Numerals.{add-one}
+use borrow.Author.Needs.{needs}
+use Rattle.region.proofs.delays.after_rise.Statement.{statement}
+use Rattle.region.proofs.delays.after_rise.Tie as tie
+
+element-copy-out-risen-class : tie.Need-element-copy-out-risen-class
+element-copy-out-risen-class c = search needs
+
+risen-class-requires : tie.Need-risen-class-requires
+risen-class-requires c κs = c .before .before .before .pre .1 0
+
+element-copy-out-risen-class-2 : tie.Need-element-copy-out-risen-class-2
+element-copy-out-risen-class-2 c = search needs
+
+risen-class-requires-2 : tie.Need-risen-class-requires-2
+risen-class-requires-2 c κs = c .before .before .before .before .before .pre .1 1
+
+element-copy-out-risen-class-3 : tie.Need-element-copy-out-risen-class-3
+element-copy-out-risen-class-3 c = search needs
+
+risen-class-requires-3 : tie.Need-risen-class-requires-3
+risen-class-requires-3 c κs = c .before .before .before .before .before .before .before .pre .1 2
+
+add-t7 : tie.Need-add-t7
+add-t7 c = search needs
+
+returns : tie.Need-returns
+returns c = λ i. record {
+  location = c .before .before .before .before .before .before .before .before .before .args .node .location;
+  region = record {
+    whole = c .before .before .before .before .before .before .before .before .before .args .node .region .whole;
+    class = ap₂ _∷_ (c .before .before .before .before .before .risen-class .ensures) (ap₂ _∷_ (c .before .before .before .risen-class2 .ensures) (ap₂ _∷_ (c .before .risen-class3 .ensures) refl)) i;
+  };
+  corner = add-one (c .before .before .before .before .before .before .before .before .before .args .node .corner) i;
+}
+
+pub after-rise-spec : {M : Type 1} → statement M
+after-rise-spec =
+    tie.close
+    (tie.spec
+    element-copy-out-risen-class
+    risen-class-requires
+    element-copy-out-risen-class-2
+    risen-class-requires-2
+    element-copy-out-risen-class-3
+    risen-class-requires-3
+    add-t7
+    returns)

@@ -1,0 +1,21 @@
+-- All 32 are there.
+use mathlib.Core.Path.{_≡_}
+use borrow.Author.Needs.{needs}
+use native.Mathlib.Omega.{arith}
+use lib.ListN.{length}
+use Rattle.sheet.specs.Decoded.{blankEdge}
+use Rattle.region.proofs.SheetLaws.{any-default}
+use Rattle.region.proofs.sheets.edge_of.Statement.{statement}
+use Rattle.region.proofs.sheets.edge_of.Tie as tie
+
+mul-result : tie.Need-mul-result
+mul-result c = search needs
+
+array-copy-out-result : tie.Need-array-copy-out-result
+array-copy-out-result c = search needs
+
+returns : tie.Need-returns
+returns c = let n : length (c .before .args .t1) ≡ 32 = search needs in any-default (c .before .args .t1) (c .before .args .e) _ blankEdge (omega arith)
+
+pub edge-of-spec : {M : Type 1} → statement M
+edge-of-spec = tie.close (tie.spec mul-result array-copy-out-result returns)

@@ -1,0 +1,24 @@
+-- Below 12 the record is there.
+use mathlib.Core.Path.{_≡_, sym}
+use borrow.Author.Needs.{needs}
+use native.Mathlib.Omega.{arith}
+use lib.ListN.{length, List·getD-eq-default}
+use Rattle.sheet.specs.Decoded.{blankLocation}
+use Rattle.region.proofs.SheetLaws.{any-default}
+use Rattle.region.proofs.sheets.location_of.Statement.{statement}
+use Rattle.region.proofs.sheets.location_of.Tie as tie
+
+mul-result : tie.Need-mul-result
+mul-result c = search needs
+
+array-copy-out-result : tie.Need-array-copy-out-result
+array-copy-out-result c = search needs
+
+returns : tie.Need-returns
+returns c = let n : length (c .before .before .args .t1) ≡ 12 = search needs in any-default (c .before .before .args .t1) (c .before .before .args .l) _ blankLocation (omega arith)
+
+returns-2 : tie.Need-returns-2
+returns-2 c = let n : length (c .before .args .t1) ≡ 12 = search needs in sym (List·getD-eq-default (c .before .args .t1) blankLocation (omega arith))
+
+pub location-of-spec : {M : Type 1} → statement M
+location-of-spec = tie.close (tie.spec mul-result array-copy-out-result returns returns-2)

@@ -1,0 +1,52 @@
+-- By the code.
+use mathlib.Core.Path.{_∙_}
+use native.Mathlib.Omega.{arith}
+use Rattle.region.proofs.SheetLaws.{no-code, delay-there}
+use borrow.Author.Needs.{needs}
+use Rattle.region.proofs.sheets.step_from.Statement.{statement}
+use Rattle.region.proofs.sheets.step_from.Tie as tie
+
+location-at-requires : tie.Need-location-at-requires
+location-at-requires c κs = search needs
+
+unit-step-requires : tie.Need-unit-step-requires
+unit-step-requires c κs = search needs
+
+location-at-requires-2 : tie.Need-location-at-requires-2
+location-at-requires-2 c κs = search needs
+
+move-step-requires : tie.Need-move-step-requires
+move-step-requires c κs = search needs
+
+edge-from-requires : tie.Need-edge-from-requires
+edge-from-requires c κs = search needs
+
+refused-requires : tie.Need-refused-requires
+refused-requires c κs = search needs
+
+returns : tie.Need-returns
+returns c = c .unit-step .ensures ∙ delay-there (c .before .before .before .args .sheet) (c .before .before .before .args .number) (c .before .before .before .args .code) 32 (c .before .before .match .keys1) (omega arith) (c .before .location-at .result) (c .before .location-at .ensures)
+
+returns-2 : tie.Need-returns-2
+returns-2 c = c .move-step .ensures ∙ delay-there (c .before .before .before .args .sheet) (c .before .before .before .args .number) (c .before .before .before .args .code) 33 (c .before .before .match .keys2) (omega arith) (c .before .location-at2 .result) (c .before .location-at2 .ensures)
+
+returns-3 : tie.Need-returns-3
+returns-3 c = search needs
+
+returns-4 : tie.Need-returns-4
+returns-4 c = c .refused .ensures ∙ no-code (c .before .before .before .args .sheet) (c .before .before .before .args .number) (c .before .before .before .args .code) (omega arith) (c .before .before .match .rest .0 .1) (c .before .before .match .rest .1)
+
+pub step-from-spec : {M : Type 1} → statement M
+step-from-spec =
+    tie.close
+    (tie.spec
+    location-at-requires
+    unit-step-requires
+    location-at-requires-2
+    move-step-requires
+    edge-from-requires
+    refused-requires
+    returns
+    returns-2
+    returns-3
+    returns-4)

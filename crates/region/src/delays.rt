@@ -1,0 +1,140 @@
+// Delays: one unit, and a region move.
+ghost use mathlib.Core.Path.{_≡_};
+ghost use Prim.Native.Nat.{ℕ, _≤_, _<_};
+ghost use lib.ListN.{getD};
+ghost use Rattle.automaton.specs.Tests.{only};
+ghost use Rattle.automaton.specs.Priced.{free};
+ghost use Rattle.automaton.specs.Steps.{carryWhole, carryClass};
+ghost use Rattle.nodes.specs.Numbers.{firstLayout, number, stepBy};
+ghost use Rattle.nodes.specs.Decoded.{alone};
+ghost use Rattle.sheet.specs.Decoded.{blankEdge};
+ghost use Rattle.region.specs.Step.{answered};
+ghost use Rattle.region.specs.Arrays.{fromArrays, boundsIn, risenClass, afterRise, afterCarry};
+use crate::Node;
+use crate::Region;
+use crate::Stepped;
+use sheet::Location;
+
+pub fn unit_step(number: u32, clocks: u8, location: Location) -> Stepped
+    ensures { λ r. ⌜ r ≡ answered (stepBy firstLayout (alone clocks blankEdge location) number 32) ⌝ }
+{
+    let k = crate::few(clocks);
+    let node = crate::numbers::unpack(number, k);
+    let region = node.region;
+    let class = region.class;
+    if crate::ranks::occurs_in(class, k, 0) {
+        return crate::refused(16);
+    }
+    if node.corner != crate::ranks::largest_of(class) {
+        return crate::refused(16);
+    }
+    let next = Node {
+        location: node.location,
+        region,
+        corner: 0,
+    };
+    Stepped {
+        refusal: 0,
+        number: crate::numbers::pack(next),
+        cost: location.cost,
+        reward: location.reward,
+    }
+}
+
+fn risen_class(clocks: usize, j: usize, c: u8) -> u8
+    requires { ⌜ c < 4 ⌝ }
+    ensures { λ r. ⌜ r ≡ risenClass clocks j c ⌝ }
+{
+    if j < clocks { c + 1 } else { 0 }
+}
+
+// All classes rise by one, and the corner.
+fn after_rise(node: Node, clocks: usize) -> Node
+    requires { ⌜ (node .corner < 4) × ((j : ℕ) → getD (node .region .class) j 0 < 4) ⌝ }
+    ensures { λ r. ⌜ r ≡ afterRise clocks node ⌝ }
+{
+    let region = node.region;
+    let whole = region.whole;
+    let class = [
+        risen_class(clocks, 0, region.class[0]),
+        risen_class(clocks, 1, region.class[1]),
+        risen_class(clocks, 2, region.class[2]),
+    ];
+    let risen = Region { whole, class };
+    Node {
+        location: node.location,
+        region: risen,
+        corner: node.corner + 1,
+    }
+}
+
+fn carry_whole(g: u8, h: u8, k: u8) -> u8
+    requires { ⌜ h < 16 ⌝ }
+    ensures { λ r. ⌜ r ≡ carryWhole g h k ⌝ }
+{
+    if k == g { h + 1 } else { h }
+}
+
+fn carry_class(g: u8, k: u8) -> u8
+    ensures { λ r. ⌜ r ≡ carryClass g k ⌝ }
+{
+    if k == g { 0 } else { k }
+}
+
+// The clocks of class g get h + 1 and class 0.
+fn after_carry(node: Node, g: u8) -> Node
+    requires { ⌜ ((j : ℕ) → getD (node .region .whole) j 0 < 16) ⌝ }
+    ensures { λ r. ⌜ r ≡ afterCarry g node ⌝ }
+{
+    let region = node.region;
+    let whole = [
+        carry_whole(g, region.whole[0], region.class[0]),
+        carry_whole(g, region.whole[1], region.class[1]),
+        carry_whole(g, region.whole[2], region.class[2]),
+    ];
+    let class = [
+        carry_class(g, region.class[0]),
+        carry_class(g, region.class[1]),
+        carry_class(g, region.class[2]),
+    ];
+    let carried = Region { whole, class };
+    Node {
+        location: node.location,
+        region: carried,
+        corner: node.corner,
+    }
+}
+
+// A free step to a node, which must lie within the upper bytes.
+fn land(node: Node, upper: [u8; 3], clocks: usize) -> Stepped
+    requires { ⌜ clocks ≤ 3 ⌝ }
+    ensures { λ r. ⌜ r ≡ answered (only (boundsIn upper clocks (node .region)) (free (number firstLayout (fromArrays node)))) ⌝ }
+{
+    if !crate::bounds::inside(node.region, upper, clocks) {
+        return crate::refused(16);
+    }
+    Stepped {
+        refusal: 0,
+        number: crate::numbers::pack(node),
+        cost: 0,
+        reward: 0,
+    }
+}
+
+pub fn move_step(number: u32, clocks: u8, location: Location) -> Stepped
+    ensures { λ r. ⌜ r ≡ answered (stepBy firstLayout (alone clocks blankEdge location) number 33) ⌝ }
+{
+    let k = crate::few(clocks);
+    let node = crate::numbers::unpack(number, k);
+    let region = node.region;
+    let class = region.class;
+    let upper = location.upper;
+    if crate::ranks::occurs_in(class, k, 0) {
+        return land(after_rise(node, k), upper, k);
+    }
+    let g = crate::ranks::largest_of(class);
+    if node.corner < g {
+        return land(after_carry(node, g), upper, k);
+    }
+    crate::refused(16)
+}
