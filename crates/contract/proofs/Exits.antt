@@ -1,0 +1,148 @@
+-- One law for each way out of `plan`: what the code has in hand there is the whole contract.
+use mathlib.Core.Path.{_≡_, refl}
+use mathlib.Core.Logic.{_≢_}
+use mathlib.Core.List.{List}
+use mathlib.Core.Option.{Option}
+use Prim.Native.Nat.{ℕ, _+_, _≤_, _<_}
+use native.Mathlib.Omega.{arith}
+use lib.IntN.{ℤ, pos}
+use lib.ListN.{length, length-replicate}
+use Rattle.automaton.specs.Priced.{Priced}
+use Rattle.automaton.specs.Walks.{ReachableCycle}
+use Rattle.automaton.specs.Weights.{Feasible}
+use Rattle.automaton.proofs.Ratios.{least-ratio}
+use Rattle.sheet.specs.Questions.{checkOf}
+use Rattle.nodes.specs.Meaning.{meaning, layoutOf}
+use Rattle.nodes.proofs.NumberLaws.{no-loop-below-numbers}
+use Rattle.nodes.proofs.CheckedLaws.{sound, room}
+use Rattle.walks.specs.Weight.{NegativeCycle, NoneNegative}
+use Rattle.contract.specs.Questions.{TooMany, IdleCycle, too-many, no-cycle, idle-cycle, all-yes}
+use Rattle.contract.specs.Accepted.{Accepted}
+use Rattle.contract.specs.Plan.{refused, Buffers, zeros, LongEnough, SameLengths, stepOn, startOf, Judged, too-short, faulty, explored, Planned}
+use Rattle.contract.specs.Explored.{Found, Explored, Overfull}
+use Rattle.contract.proofs.Hand.{weight13, weight14, InHand}
+use Rattle.contract.proofs.Checks.{check-low}
+use Rattle.contract.proofs.Counts as Counts
+use Rattle.contract.proofs.Arcs as Arcs
+use Rattle.contract.proofs.Searches as Searches
+use Rattle.contract.proofs.Lassos as Lassos
+use Rattle.contract.proofs.Accepting as Accepting
+
+same-lengths : (b : Buffers) → SameLengths b b
+same-lengths b = record { nodes = refl; potentials = refl; steps = refl }
+
+zero-lengths : (b : Buffers) → SameLengths (zeros b) b
+zero-lengths b = record {
+  nodes = length-replicate (length (b .nodes)) 0;
+  potentials = length-replicate (length (b .potentials)) (pos 0);
+  steps = length-replicate (length (b .steps)) 0;
+}
+
+-- a refusal from 1 to 11: nothing is written
+left-alone : (bytes : List ℕ) (b : Buffers) (r : ℕ) → 0 < r → r ≤ 11 → Judged bytes b r → Planned bytes b b (refused r)
+left-alone bytes b r some low j = record {
+  judged = j;
+  numbers = λ h. refl;
+  kept = λ h k. refl;
+  cleared = λ h. absurd (omega arith);
+  lengths = same-lengths b;
+  accepted = λ e. absurd (omega arith);
+  no-loop-below = λ e. absurd (omega arith);
+}
+
+-- a refusal from 12 to 14: every entry is 0
+set-to-zero : (bytes : List ℕ) (b : Buffers) (r : ℕ) → 12 ≤ r → Judged bytes b r → Planned bytes b (zeros b) (refused r)
+set-to-zero bytes b r high j = record {
+  judged = j;
+  numbers = λ h. refl;
+  kept = λ h k. absurd (omega arith);
+  cleared = λ h. refl;
+  lengths = zero-lengths b;
+  accepted = λ e. absurd (omega arith);
+  no-loop-below = λ e. absurd (omega arith);
+}
+
+module _ (bytes : List ℕ) (b : Buffers) where
+  -- question 1
+  pub short-buffer : ¬ LongEnough b → Planned bytes b b (refused 1)
+  short-buffer h = left-alone bytes b 1 (omega arith) (omega arith) (too-short refl h)
+
+  module _ (long : LongEnough b) where
+    -- questions 2 to 11
+    pub faulty-sheet : checkOf bytes ≢ 0 → Planned bytes b b (refused (checkOf bytes))
+    faulty-sheet h = left-alone bytes b (checkOf bytes) (omega arith) (check-low bytes) (faulty refl long h)
+
+    module _ (checked : checkOf bytes ≡ 0) where
+      -- question 12: exploring found more than there is room for
+      pub too-many-nodes : (node : List ℕ) → Overfull (stepOn bytes) (startOf bytes) node → Planned bytes b (zeros b) (refused 12)
+      too-many-nodes node o = set-to-zero bytes b 12 (omega arith)
+          (explored long checked (too-many refl (Counts.too-many (stepOn bytes) (startOf bytes) node o)))
+
+      module _ (g : Found) (x : Explored (stepOn bytes) (startOf bytes) g) where
+        few : ¬ TooMany (stepOn bytes) (startOf bytes)
+        few = Counts.few-listed (stepOn bytes) (startOf bytes) (g .node) (g .n) (x .few) (Arcs.listed x)
+
+        -- question 13: the search with weight13 ended with potentials
+        pub no-cycle-reachable : NoneNegative (g .from) (g .to) (g .m) (weight13 g) → Planned bytes b (zeros b) (refused 13)
+        no-cycle-reachable none = set-to-zero bytes b 13 (omega arith)
+            (explored long checked (no-cycle refl few (Searches.no-cycle x none)))
+
+        -- question 14: the search with weight14 found a cycle, of at most n arcs
+        pub cycle-earns-nothing : (l : List ℕ) → NegativeCycle (g .from) (g .to) (g .m) (weight14 g) l → length l ≤ g .n
+            → Planned bytes b (zeros b) (refused 14)
+        cycle-earns-nothing l o h = set-to-zero bytes b 14 (omega arith) (explored long checked (idle-cycle refl few
+            (Searches.some-cycle x (weight14 g) l o)
+            (Searches.idle-cycle x l o (omega (arith, x .few)))))
+
+-- accepted
+module _ (bytes : List ℕ) (before after : Buffers) (g : Found) (p : ℤ) (q : ℕ) (D : List ℤ) (order stem cycle : List ℕ)
+    (h : InHand bytes before after g p q D order stem cycle) where
+  abbrev step : ℕ → ℕ → Option (Priced ℕ)
+  step = stepOn bytes
+
+  abbrev start : ℕ
+  start = startOf bytes
+
+  abbrev x : Explored step start g
+  x = h .explored
+
+  reachable-cycle : ReachableCycle step start (Arcs.costOf g cycle) (Arcs.rewardOf g cycle)
+  reachable-cycle = Arcs.cycle-steps x (h .lasso .hub) cycle
+      (record { path = stem; walk = h .lasso .stem }) (record { some = h .lasso .some; walk = h .lasso .cycle })
+
+  none-idle : ¬ IdleCycle step start
+  none-idle = Searches.none-idle x (h .none-idle)
+
+  earns : 0 < Arcs.rewardOf g cycle
+  earns = Accepting.earns x none-idle (Arcs.costOf g cycle) (Arcs.rewardOf g cycle) reachable-cycle
+
+  short : length stem + length cycle ≤ g .n
+  short = Lassos.short x stem cycle (h .lasso)
+
+  feasible : Feasible step start p q (Accepting.ϕ g D)
+  feasible = Accepting.feasible x p q D (h .potentials)
+
+  plan-accepted : Accepted step start p q (g .n) (length stem) (length cycle) (after .nodes) (after .potentials) (after .steps)
+  plan-accepted = record {
+    ratio = least-ratio step start p q (Accepting.ϕ g D) feasible (h .lowest) (Arcs.costOf g cycle) (Arcs.rewardOf g cycle) reachable-cycle earns (h .exact);
+    node-list = Accepting.node-list x order (after .nodes) (h .sorted) (h .nodes-rest);
+    potential-list = Accepting.potential-list x p q D (h .potentials) order (after .nodes) (h .sorted)
+        (after .potentials) (h .permuted) (h .potentials-rest);
+    lasso = Lassos.lasso-steps x stem cycle (h .lasso) (after .steps)
+        (omega (arith, short, x .few, h .long .steps, h .lengths .steps)) (h .codes) p q earns (h .exact) (h .steps-rest);
+    short = short;
+  }
+
+  pub accepted : Planned bytes before after (record { refusal = 0; p = p; q = q; n = g .n; s = length stem; m = length cycle })
+  accepted = record {
+    judged = explored (h .long) (h .checked) (all-yes refl
+        (Counts.few-listed step start (g .node) (g .n) (x .few) (Arcs.listed x))
+        (record { cost = Arcs.costOf g cycle; reward = Arcs.rewardOf g cycle; cycle = reachable-cycle }) none-idle);
+    numbers = λ k. absurd (omega arith);
+    kept = λ k l. absurd (omega arith);
+    cleared = λ k. absurd (omega arith);
+    lengths = h .lengths;
+    accepted = λ e. plan-accepted;
+    no-loop-below = λ e. no-loop-below-numbers (layoutOf bytes) (meaning bytes) (room bytes (h .checked)) (sound bytes (h .checked)) p q
+        (Accepting.ϕ g D) feasible;
+  }

@@ -1,0 +1,128 @@
+-- The explored graph as `graph::negative_cycle` takes it: as many entries in each list as there are arcs, and prices in range.
+use mathlib.Core.Path.{_≡_, sym, _∙_, subst}
+use mathlib.Core.Bool.{true}
+use mathlib.Core.List.{List, _++_}
+use mathlib.Core.Option.{Option, some}
+use Prim.Native.Nat.{ℕ, _≤_, _<_}
+use native.Mathlib.Omega.{arith}
+use lib.IntN.{ℤ, pos, natAbs, _*ℤ_, +ℤ-comm}
+use lib.ListN.{length, take}
+use lib.Seq.{getD-take}
+use borrow.Author.Tests.{ltb-true}
+use lib.Dec.{ltb}
+use Rattle.automaton.specs.Automaton.{Automaton}
+use Rattle.automaton.specs.Priced.{Priced}
+use Rattle.automaton.specs.Nodes.{Node, isNode}
+use Rattle.automaton.specs.Steps.{step}
+use Rattle.automaton.specs.Walks.{Reachable}
+use Rattle.automaton.proofs.Tests.{&&-left}
+use Rattle.automaton.proofs.Codes.{step-cases, edge-needs, unit-needs, move-cases}
+use Rattle.automaton.proofs.Nodes.{proper-of}
+use Rattle.sheet.specs.Questions.{checkOf}
+use Rattle.nodes.specs.Numbers.{Layout, number, nodeOf, stepBy}
+use Rattle.nodes.specs.Meaning.{meaning, layoutOf}
+use Rattle.nodes.proofs.Carried.{named-some}
+use Rattle.nodes.proofs.NumberLaws.{node-there, reached-is-number}
+use Rattle.nodes.proofs.CheckedLaws.{sound, room, rates-small, prices-small}
+use Rattle.walks.specs.Walk.{at, atℤ}
+use Rattle.walks.specs.Form.{Graph}
+use Rattle.walks.proofs.Weights.{sum-append, total-append}
+use Rattle.contract.specs.Plan.{stepOn, startOf}
+use Rattle.contract.specs.Explored.{Found, Explored}
+use Rattle.contract.proofs.Arcs.{costOf, rewardOf}
+
+-- codes from 34 on are no steps
+pub code-below : (y : Layout) (A : Automaton) (x code : ℕ) (v : Priced ℕ) → stepBy y A x code ≡ some v → code < 34
+unfolding stepBy
+code-below y A x code v e =
+    let a = named-some (number y) (step A (nodeOf y (A .clocks) x) code) v e in
+    step-cases A (nodeOf y (A .clocks) x) code (a .value) (a .is) (λ h k. omega arith) (λ h k. omega arith) (λ h k. omega arith)
+
+-- ---- the fronts of the lists
+
+-- the same nodes and arcs, in lists of m arcs
+abbrev pub cut : Found → Found
+cut g = record {
+  node = g .node;
+  from = take (g .m) (g .from);
+  to = take (g .m) (g .to);
+  code = take (g .m) (g .code);
+  cost = take (g .m) (g .cost);
+  reward = take (g .m) (g .reward);
+  n = g .n;
+  m = g .m;
+}
+
+module _ (step : ℕ → ℕ → Option (Priced ℕ)) (start : ℕ) (g : Found) where
+  front : (l : List ℕ) (e : ℕ) → e < g .m → at (take (g .m) l) e ≡ at l e
+  front l e h = getD-take (g .m) l e 0 h
+
+  pub explored-cut : Explored step start g → Explored step start (cut g)
+  explored-cut x = record {
+    some-node = x .some-node;
+    first = x .first;
+    few = x .few;
+    distinct = x .distinct;
+    reachable = x .reachable;
+    source = λ e h. rw (front (g .from) e h) (x .source e h);
+    target = λ e h. rw (front (g .to) e h) (x .target e h);
+    sound = λ e h. rw (front (g .from) e h, front (g .to) e h, front (g .code) e h, getD-take (g .m) (g .cost) e (pos 0) h, front (g .reward) e h) (x .sound e h);
+    complete = λ a code v h e. (let t = x .complete a code v h e in record {
+      arc = t .arc;
+      below = t .below;
+      source = front (g .from) (t .arc) (t .below) ∙ t .source;
+      code-is = front (g .code) (t .arc) (t .below) ∙ t .code-is;
+    });
+  }
+
+-- ---- prices in range
+module _ (bytes : List ℕ) (ok : checkOf bytes ≡ 0) where
+  abbrev Small : {S : Type 0} → Priced S → Type 0
+  Small v = (natAbs (v .cost) ≤ 10000) × (v .reward ≤ 10000)
+
+  node-prices : (u : Node) (code : ℕ) (v : Priced Node) → isNode (meaning bytes) u ≡ true → step (meaning bytes) u code ≡ some v → Small v
+  node-prices u code v h e = step-cases (meaning bytes) u code v e
+      (λ l k. let n = edge-needs (meaning bytes) u v code k in
+      subst (λ (w : Priced Node). Small w) (sym (n .1)) (prices-small bytes ok code
+      (ltb-true code (meaning bytes .edges) (&&-left (ltb code (meaning bytes .edges)) _ (n .0)))))
+      (λ l k. subst (λ (w : Priced Node). Small w) (sym (unit-needs (meaning bytes) u v k .2))
+      (rates-small bytes ok (u .location) (proper-of (meaning bytes) u h .here)))
+      (λ l k. move-cases (meaning bytes) u v k
+      (λ a i q. subst (λ (w : Priced Node). Small w) (sym q) (omega arith))
+      (λ a b i q. subst (λ (w : Priced Node). Small w) (sym q) (omega arith)))
+
+  -- of a step from a reachable node
+  pub prices : (x code : ℕ) (v : Priced ℕ) → Reachable (stepOn bytes) (startOf bytes) x → stepOn bytes x code ≡ some v
+      → (natAbs (v .cost) ≤ 10000) × (v .reward ≤ 10000)
+  unfolding stepBy
+  prices x code v r e =
+      let u = nodeOf (layoutOf bytes) (meaning bytes .clocks) x in
+      let a = named-some (number (layoutOf bytes)) (step (meaning bytes) u code) v e in
+      subst (λ (w : Priced ℕ). Small w) (a .name) (node-prices u code (a .value)
+      (node-there (layoutOf bytes) (meaning bytes) (room bytes ok) x (reached-is-number (layoutOf bytes) (meaning bytes) (room bytes ok) (sound bytes ok) r))
+      (a .is))
+
+  pub graph : (g : Found) → Explored (stepOn bytes) (startOf bytes) g → length (g .from) ≡ g .m → length (g .to) ≡ g .m → length (g .cost) ≡ g .m
+      → length (g .reward) ≡ g .m → g .m ≤ 69632 → Graph (g .from) (g .to) (g .cost) (g .reward) (g .n)
+  graph g x lf lt lc lr few = record {
+    some = x .some-node;
+    nodes = x .few;
+    arcs = omega (arith, lf);
+    tos = lt ∙ sym lf;
+    costs = lc ∙ sym lf;
+    rewards = lr ∙ sym lf;
+    arc = λ e h. (let l : e < g .m = omega (arith, lf) in
+        let s = prices (at (g .node) (at (g .from) e)) (at (g .code) e) _ (x .reachable (at (g .from) e) (x .source e l)) (x .sound e l) in
+        record { source = x .source e l; target = x .target e l; cost-small = s .0; reward-small = s .1 });
+  }
+
+-- ---- a cycle turned costs and earns the same
+module _ (g : Found) (a b : List ℕ) where
+  pub cost-turned : costOf g (b ++ a) ≡ costOf g (a ++ b)
+  cost-turned = sum-append (atℤ (g .cost)) b a ∙ +ℤ-comm (costOf g b) (costOf g a) ∙ sym (sum-append (atℤ (g .cost)) a b)
+
+  pub reward-turned : rewardOf g (b ++ a) ≡ rewardOf g (a ++ b)
+  reward-turned = omega (arith, total-append (at (g .reward)) a b, total-append (at (g .reward)) b a)
+
+  pub exact-turned : (p : ℤ) (q : ℕ) → pos q *ℤ costOf g (a ++ b) ≡ p *ℤ pos (rewardOf g (a ++ b)) → pos q *ℤ costOf g (b ++ a) ≡ p *ℤ pos (rewardOf g (b ++ a))
+  exact-turned p q e = rw (cost-turned, reward-turned) e

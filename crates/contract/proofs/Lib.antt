@@ -1,0 +1,15 @@
+pub mod Hand
+pub mod Indices
+pub mod Arcs
+pub mod Counts
+pub mod Searches
+pub mod Lassos
+pub mod Accepting
+pub mod Checks
+pub mod Exits
+pub mod DecodedSheets
+pub mod Graphs
+pub mod JustWhen
+pub mod Rising
+pub mod Unique
+pub mod StarredCertificates

@@ -1,0 +1,104 @@
+-- The contract leaves nothing open but the lasso: two answers that meet it for the same sheet, and buffers of the same lengths, agree in the
+-- refusal, the ratio, the number of nodes, the node list and the potentials.
+use mathlib.Core.Path.{_≡_, refl, sym, ap, _∙_}
+use mathlib.Core.List.{List}
+use mathlib.Core.Option.{Option}
+use Prim.Native.Nat.{ℕ, _≤_, _<_}
+use native.Mathlib.Decide.{decLt, decLe}
+use native.Mathlib.Omega.{arith}
+use lib.IntN.{ℤ, pos}
+use lib.ListN.{length, getD}
+use lib.Seq.{ext-getD}
+use Rattle.automaton.specs.Priced.{Priced}
+use Rattle.automaton.specs.Weights.{Potential}
+use Rattle.automaton.proofs.Potentials.{least-unique}
+use Rattle.automaton.proofs.Ratios.{ratio-unique}
+use Rattle.walks.specs.Walk.{at, atℤ}
+use Rattle.contract.specs.Accepted.{Accepted}
+use Rattle.contract.specs.Plan.{Answer, refused, Buffers, SameLengths, Planned}
+use Rattle.contract.proofs.JustWhen.{refusal-unique}
+use Rattle.contract.proofs.Rising.{same-count, same-entry}
+
+-- what two answers agree in
+pub record Agree (after after' : Buffers) (a a' : Answer) : Type 0 where
+  pub refusal : a .refusal ≡ a' .refusal
+  pub p : a .p ≡ a' .p
+  pub q : a .q ≡ a' .q
+  pub n : a .n ≡ a' .n
+  pub nodes : (i : ℕ) → i < a .n → at (after .nodes) i ≡ at (after' .nodes) i
+  pub potentials : (i : ℕ) → i < a .n → atℤ (after .potentials) i ≡ atℤ (after' .potentials) i
+
+-- ---- accepted
+module _ {step : ℕ → ℕ → Option (Priced ℕ)} {start : ℕ} {p p' : ℤ} {q q' n n' s s' m m' : ℕ} {N N' : List ℕ} {P P' : List ℤ} {S S' : List ℕ}
+    (a : Accepted step start p q n s m N P S) (b : Accepted step start p' q' n' s' m' N' P' S') where
+  ratio : (p ≡ p') × (q ≡ q')
+  ratio = ratio-unique step start p p' q q' (a .ratio) (b .ratio)
+
+  count : n ≡ n'
+  count = same-count n N n' N' (a .node-list .rising) (b .node-list .rising)
+      (λ i h. b .node-list .complete (at N i) (a .node-list .reachable i h)) (λ i h. a .node-list .complete (at N' i) (b .node-list .reachable i h))
+
+  entry : (i : ℕ) → i < n → at N i ≡ at N' i
+  entry = same-entry n N n' N' (a .node-list .rising) (b .node-list .rising)
+      (λ i h. b .node-list .complete (at N i) (a .node-list .reachable i h)) (λ i h. a .node-list .complete (at N' i) (b .node-list .reachable i h))
+
+  value : (i : ℕ) → i < n → atℤ P i ≡ atℤ P' i
+  value i h = least-unique step start p q (a .potential-list .least i h) moved
+    where
+      moved : Potential step start p q (at N i) (atℤ P' i)
+      moved = rw (ratio .0, ratio .1, entry i h) (b .potential-list .least i (omega (arith, count)))
+
+module _ {bytes : List ℕ} {before before' after after' : Buffers} {a a' : Answer} (same : SameLengths before before')
+    (h : Planned bytes before after a) (k : Planned bytes before' after' a') where
+  same-refusal : a .refusal ≡ a' .refusal
+  same-refusal = refusal-unique bytes before before' same (a .refusal) (a' .refusal) (h .judged) (k .judged)
+
+  pub unique : Agree after after' a a'
+  unique = elim (decLt 0 (a .refusal)) [
+    | yes l ↦ (let e : a ≡ a' = h .numbers l ∙ ap refused same-refusal ∙ sym (k .numbers (omega (arith, same-refusal))) in record {
+      refusal = same-refusal;
+      p = ap (λ (a : Answer). a .p) e;
+      q = ap (λ (a : Answer). a .q) e;
+      n = ap (λ (a : Answer). a .n) e;
+      nodes = λ i w. absurd (omega (arith, ap (λ (a : Answer). a .n) (h .numbers l)));
+      potentials = λ i w. absurd (omega (arith, ap (λ (a : Answer). a .n) (h .numbers l)));
+    })
+    | no l ↦ (let z : a .refusal ≡ 0 = omega arith in
+        let x = h .accepted z in
+        let y = k .accepted (sym same-refusal ∙ z) in
+        record { refusal = same-refusal; p = ratio x y .0; q = ratio x y .1; n = count x y; nodes = entry x y; potentials = value x y })
+  ]
+
+-- lent the same buffers, they leave the same in the first two
+module _ {bytes : List ℕ} {before after after' : Buffers} {a a' : Answer}
+    (h : Planned bytes before after a) (k : Planned bytes before after' a') where
+  agree : Agree after after' a a'
+  agree = unique (record { nodes = refl; potentials = refl; steps = refl }) h k
+
+  -- one of the lists, whose first n entries agree and whose others are 0
+  filled : {X : Type 0} (d : X) (n n' : ℕ) (l l' : List X) → length l ≡ length l' → n ≡ n' → ((i : ℕ) → i < n → getD l i d ≡ getD l' i d)
+      → ((i : ℕ) → n ≤ i → i < length l → getD l i d ≡ d) → ((i : ℕ) → n' ≤ i → i < length l' → getD l' i d ≡ d) → l ≡ l'
+  filled d n n' l l' e q same rest rest' = ext-getD d l l' e (λ i w. elim (decLt i n) [
+    | yes u ↦ same i u
+    | no u ↦ rest i (omega arith) w ∙ sym (rest' i (omega arith) (omega arith))
+  ])
+
+  -- refused, all three are the same
+  same-refused : 0 < a .refusal → after ≡ after'
+  same-refused l = elim (decLe (a .refusal) 11) [
+    | yes u ↦ h .kept l u ∙ sym (k .kept (omega (arith, agree .refusal)) (omega (arith, agree .refusal)))
+    | no u ↦ h .cleared (omega arith) ∙ sym (k .cleared (omega (arith, agree .refusal)))
+  ]
+
+  pub same-buffers : (after .nodes ≡ after' .nodes) × (after .potentials ≡ after' .potentials)
+  same-buffers = elim (decLt 0 (a .refusal)) [
+    | yes l ↦ (ap (λ (b : Buffers). b .nodes) (same-refused l), ap (λ (b : Buffers). b .potentials) (same-refused l))
+    | no l ↦ (let z : a .refusal ≡ 0 = omega arith in
+        let x = h .accepted z in
+        let y = k .accepted (sym (agree .refusal) ∙ z) in (
+          filled 0 (a .n) (a' .n) (after .nodes) (after' .nodes) (h .lengths .nodes ∙ sym (k .lengths .nodes)) (agree .n) (agree .nodes)
+              (x .node-list .rest) (y .node-list .rest),
+          filled (pos 0) (a .n) (a' .n) (after .potentials) (after' .potentials) (h .lengths .potentials ∙ sym (k .lengths .potentials)) (agree .n)
+              (agree .potentials) (x .potential-list .rest) (y .potential-list .rest),
+        ))
+  ]

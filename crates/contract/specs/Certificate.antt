@@ -1,0 +1,111 @@
+-- Certificates of what a plan answers, and the test of one: the steps from the listed nodes are tried, and nothing is searched for.
+use mathlib.Core.Bool.{Bool, true, false, cond, _&&_, _||_, not}
+use mathlib.Core.List.{List, [], _∷_}
+use mathlib.Core.Option.{Option, none, some}
+use Prim.Native.Nat.{ℕ, suc, _-_, _%_}
+use lib.Dec.{eqb, leb, ltb}
+use lib.IntN.{ℤ, pos, natAbs, _+ℤ_, _*ℤ_}
+use lib.ListN.{length}
+use lib.Signed.{leZ}
+use Rattle.automaton.specs.Tests.{occurs, every}
+use Rattle.automaton.specs.Priced.{Priced, chain}
+use Rattle.automaton.specs.Weights.{weight}
+use Rattle.sheet.specs.Questions.{each, checkOf}
+use Rattle.walks.specs.Walk.{at, atℤ}
+use Rattle.contract.specs.Plan.{stepOn, startOf}
+use Rattle.contract.specs.Answers.{Says, accepts, refuses}
+
+-- what is not asked for is left empty
+pub record Certificate : Type 0 where
+  -- the reachable nodes, and in the same order their potentials, and ranks that fall along steps
+  pub nodes : List ℕ
+  pub potentials : List ℤ
+  pub ranks : List ℕ
+  -- the lasso
+  pub stem : List ℕ
+  pub cycle : List ℕ
+  -- walks from the start that pass every listed node
+  pub walks : List (List ℕ)
+
+-- the first place of x in a list, or the list's length where x is not in it
+unfoldable pub indexOf : List ℕ → ℕ → ℕ
+indexOf [] x = 0
+indexOf (z ∷ l) x = cond (eqb z x) 0 (suc (indexOf l x))
+
+abbrev pub lists : List ℕ → ℕ → Bool
+lists l x = ltb (indexOf l x) (length l)
+
+unfoldable pub rises : List ℕ → Bool
+rises l = each (length l - 1) (λ i. ltb (at l i) (at l (suc i)))
+
+-- "in lowest terms with q ≥ 1": no number up to q but 1 divides both
+unfoldable pub isLowest : ℤ → ℕ → Bool
+isLowest p q = ltb 0 q && each (suc q) (λ d. eqb d 1 || not (eqb (natAbs p % d) 0 && eqb (q % d) 0))
+
+-- a cycle with this cost and reward earns, and has the ratio p/q
+abbrev pub hasRatio : ℤ → ℕ → ℤ → ℕ → Bool
+hasRatio p q c r = ltb 0 r && (leZ (pos q *ℤ c) (p *ℤ pos r) && leZ (p *ℤ pos r) (pos q *ℤ c))
+
+-- does a step that is allowed pass the test?
+abbrev pub ifAllowed : (Priced ℕ → Bool) → Option (Priced ℕ) → Bool
+ifAllowed t none = true
+ifAllowed t (some v) = t v
+
+-- is the walk allowed, and does it pass the test?
+abbrev pub isAllowed : (Priced ℕ → Bool) → Option (Priced ℕ) → Bool
+isAllowed t none = false
+isAllowed t (some v) = t v
+
+-- what f lists from where an allowed step leads
+abbrev pub thence : (ℕ → List ℕ) → Option (Priced ℕ) → List ℕ
+thence f none = []
+thence f (some v) = f (v .to)
+
+module _ (step : ℕ → ℕ → Option (Priced ℕ)) (start : ℕ) where
+  -- each step from a listed node, by codes 0 to 33, passes the test, which is told the node's place
+  unfoldable pub eachStep : List ℕ → (ℕ → Priced ℕ → Bool) → Bool
+  eachStep nodes t = every (λ i x. each 34 (λ code. ifAllowed (t i) (step x code))) nodes
+
+  -- the list rises, has at most 2,048 entries, and holds the start and every successor of its members
+  unfoldable pub holdsAll : List ℕ → Bool
+  holdsAll nodes = rises nodes && (leb (length nodes) 2048 && (lists nodes start && eachStep nodes (λ i v. lists nodes (v .to))))
+
+  -- no step leads to a potential above the node's plus the step's weight
+  unfoldable pub keeps : ℤ → ℕ → List ℕ → List ℤ → Bool
+  keeps p q nodes potentials =
+      eachStep nodes (λ i v. leZ (atℤ potentials (indexOf nodes (v .to))) (atℤ potentials i +ℤ weight p q (v .cost) (v .reward)))
+
+  -- the rank falls along each step whose reward is of this kind
+  unfoldable pub falls : (ℕ → Bool) → List ℕ → List ℕ → Bool
+  falls kind nodes ranks = eachStep nodes (λ i v. not (kind (v .reward)) || ltb (at ranks (indexOf nodes (v .to))) (at ranks i))
+
+  -- the stem is walked from the start, and the cycle from there back; the cycle's cost and reward pass the test
+  unfoldable pub isLasso : (ℤ → ℕ → Bool) → List ℕ → List ℕ → Bool
+  isLasso t stem cycle = ltb 0 (length cycle)
+      && isAllowed (λ u. isAllowed (λ v. eqb (v .to) (u .to) && t (v .cost) (v .reward)) (chain step (u .to) cycle)) (chain step start stem)
+
+  -- the nodes that a walk from x passes
+  unfoldable pub passed : List ℕ → ℕ → List ℕ
+  passed [] x = x ∷ []
+  passed (code ∷ codes) x = x ∷ thence (passed codes) (step x code)
+
+  -- does one of the walks from the start pass x?
+  unfoldable pub isPassed : List (List ℕ) → ℕ → Bool
+  isPassed [] x = false
+  isPassed (codes ∷ walks) x = occurs x (passed codes start) || isPassed walks x
+
+  -- accepted, with the ratio p/q and n nodes
+  unfoldable pub showsAccepted : ℤ → ℕ → ℕ → Certificate → Bool
+  showsAccepted p q n c = holdsAll (c .nodes) && (eqb (length (c .nodes)) n && (every (λ i. isPassed (c .walks)) (c .nodes)
+      && (isLowest p q && (keeps p q (c .nodes) (c .potentials) && (isLasso (hasRatio p q) (c .stem) (c .cycle)
+      && falls (λ r. eqb r 0) (c .nodes) (c .ranks))))))
+
+  -- 13: the ranks fall along every step; 14: the lasso's cycle earns nothing
+  unfoldable pub showsRefused : ℕ → Certificate → Bool
+  showsRefused refusal c = holdsAll (c .nodes)
+      && ((eqb refusal 13 && falls (λ r. true) (c .nodes) (c .ranks)) || (eqb refusal 14 && isLasso (λ cost r. eqb r 0) (c .stem) (c .cycle)))
+
+-- where the check refuses the sheet, no certificate is needed
+unfoldable pub certifies : List ℕ → Says → Certificate → Bool
+certifies bytes (accepts p q n) c = eqb (checkOf bytes) 0 && showsAccepted (stepOn bytes) (startOf bytes) p q n c
+certifies bytes (refuses refusal) c = cond (eqb (checkOf bytes) 0) (showsRefused (stepOn bytes) (startOf bytes) refusal c) (eqb refusal (checkOf bytes))

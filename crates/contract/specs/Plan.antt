@@ -1,0 +1,79 @@
+-- The contract of `plan`: what it answers and leaves in the three buffers, for every byte string and all buffers.
+use mathlib.Core.Path.{_≡_}
+use mathlib.Core.Logic.{_≢_}
+use mathlib.Core.List.{List}
+use mathlib.Core.Option.{Option}
+use Prim.Native.Nat.{ℕ, _≤_, _<_}
+use lib.IntN.{ℤ, pos}
+use lib.ListN.{length, replicate}
+use Rattle.automaton.specs.Priced.{Priced}
+use Rattle.automaton.specs.Loops.{NoLoopBelow}
+use Rattle.sheet.specs.Questions.{checkOf}
+use Rattle.nodes.specs.Numbers.{stepBy, startNumber}
+use Rattle.nodes.specs.Meaning.{meaning, layoutOf}
+use Rattle.contract.specs.Questions.{Verdict}
+use Rattle.contract.specs.Accepted.{Accepted}
+
+-- the answer: the refusal, the ratio p/q, n reachable nodes, a stem of s steps and a cycle of m
+pub record Answer : Type 0 where
+  pub refusal : ℕ
+  pub p : ℤ
+  pub q : ℕ
+  pub n : ℕ
+  pub s : ℕ
+  pub m : ℕ
+
+-- "All numbers besides the refusal are 0."
+abbrev pub refused : ℕ → Answer
+refused r = record { refusal = r; p = pos 0; q = 0; n = 0; s = 0; m = 0 }
+
+-- the three buffers
+pub record Buffers : Type 0 where
+  pub nodes : List ℕ
+  pub potentials : List ℤ
+  pub steps : List ℕ
+
+-- every entry 0
+abbrev pub zeros : Buffers → Buffers
+zeros b = record {
+  nodes = replicate (length (b .nodes)) 0;
+  potentials = replicate (length (b .potentials)) (pos 0);
+  steps = replicate (length (b .steps)) 0;
+}
+
+-- 1. "(Plan only) Has each buffer at least 2,048 entries?"
+pub record LongEnough (b : Buffers) : Type 0 where
+  pub nodes : 2048 ≤ length (b .nodes)
+  pub potentials : 2048 ≤ length (b .potentials)
+  pub steps : 2048 ≤ length (b .steps)
+
+pub record SameLengths (a b : Buffers) : Type 0 where
+  pub nodes : length (a .nodes) ≡ length (b .nodes)
+  pub potentials : length (a .potentials) ≡ length (b .potentials)
+  pub steps : length (a .steps) ≡ length (b .steps)
+
+-- the steps on node numbers, those that a single step answers, and the start
+abbrev pub stepOn : List ℕ → ℕ → ℕ → Option (Priced ℕ)
+stepOn bytes = stepBy (layoutOf bytes) (meaning bytes)
+
+abbrev pub startOf : List ℕ → ℕ
+startOf bytes = startNumber (layoutOf bytes) (meaning bytes)
+
+-- "Reading stops at the first question answered no, with that number": 1, then 2 to 11, then 12 to 14
+pub data Judged (bytes : List ℕ) (b : Buffers) (refusal : ℕ) : Type 0 where
+  too-short : refusal ≡ 1 → ¬ LongEnough b → Judged bytes b refusal
+  faulty : refusal ≡ checkOf bytes → LongEnough b → checkOf bytes ≢ 0 → Judged bytes b refusal
+  explored : LongEnough b → checkOf bytes ≡ 0 → Verdict (stepOn bytes) (startOf bytes) refusal → Judged bytes b refusal
+
+-- the contract, with the buffers before and after
+pub record Planned (bytes : List ℕ) (before after : Buffers) (a : Answer) : Type 0 where
+  pub judged : Judged bytes before (a .refusal)
+  pub numbers : 0 < a .refusal → a ≡ refused (a .refusal)
+  -- "Refusals 1 to 11 do not write to any buffer; 12 to 14 set every entry of the three buffers to 0."
+  pub kept : 0 < a .refusal → a .refusal ≤ 11 → after ≡ before
+  pub cleared : 12 ≤ a .refusal → after ≡ zeros before
+  pub lengths : SameLengths after before
+  pub accepted : a .refusal ≡ 0
+      → Accepted (stepOn bytes) (startOf bytes) (a .p) (a .q) (a .n) (a .s) (a .m) (after .nodes) (after .potentials) (after .steps)
+  -- demand 3, over all runs in nths
+  pub no-loop-below : a .refusal ≡ 0 → NoLoopBelow (meaning bytes) (a .p) (a .q)

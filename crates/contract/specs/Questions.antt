@@ -1,0 +1,33 @@
+-- Questions 12 to 14, for any steps by code.
+use mathlib.Core.Path.{_≡_}
+use mathlib.Core.Option.{Option}
+use Prim.Native.Nat.{ℕ, _≤_}
+use lib.IntN.{ℤ}
+use Rattle.automaton.specs.Priced.{Priced}
+use Rattle.automaton.specs.Walks.{Reachable, ReachableCycle}
+
+module _ (step : ℕ → ℕ → Option (Priced ℕ)) (start : ℕ) where
+  -- 12. "Are at most 2,048 nodes reachable?" Answered no: 2,049 different ones are, node 0 to node 2048.
+  pub record TooMany : Type 0 where
+    pub node : ℕ → ℕ
+    pub distinct : (i j : ℕ) → i ≤ 2048 → j ≤ 2048 → node i ≡ node j → i ≡ j
+    pub reachable : (i : ℕ) → i ≤ 2048 → Reachable step start (node i)
+
+  -- 13. "Is some cycle reachable?" Answered yes.
+  pub record SomeCycle : Type 0 where
+    pub cost : ℤ
+    pub reward : ℕ
+    pub cycle : ReachableCycle step start cost reward
+
+  -- 14. "Does every reachable cycle earn more than 0?" Answered no: this one does not.
+  pub record IdleCycle : Type 0 where
+    pub cost : ℤ
+    pub cycle : ReachableCycle step start cost 0
+
+  -- "Reading stops at the first question answered no, with that number", and with 0 where each is answered yes. No two cases hold together,
+  -- so each number stands just where its own case does.
+  pub data Verdict (refusal : ℕ) : Type 0 where
+    too-many : refusal ≡ 12 → TooMany → Verdict refusal
+    no-cycle : refusal ≡ 13 → ¬ TooMany → ¬ SomeCycle → Verdict refusal
+    idle-cycle : refusal ≡ 14 → ¬ TooMany → SomeCycle → IdleCycle → Verdict refusal
+    all-yes : refusal ≡ 0 → ¬ TooMany → SomeCycle → ¬ IdleCycle → Verdict refusal

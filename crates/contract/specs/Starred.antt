@@ -1,0 +1,82 @@
+-- 01's table of changes to Bench: each sheet and what a plan answers.
+use mathlib.Core.List.{List, [], _∷_, _++_}
+use Prim.Native.Nat.{ℕ}
+use lib.IntN.{pos, negsuc}
+use lib.ListN.{set, take}
+use Rattle.contract.specs.Answers.{Says, accepts, refuses, Holds}
+
+pub record Row : Type 0 where
+  pub bytes : List ℕ
+  pub says : Says
+
+-- every row of a table holds
+unfoldable pub AllHold : List Row → Type 0
+AllHold [] = Unit {0}
+AllHold (r ∷ rows) = Holds (r .bytes) (r .says) × AllHold rows
+
+-- edition, L, K and E; the location: map 05, cost rate 1, bound 05; the edge: map 0F 00, from 0 to 0, cost 5, reward 2, reset mask 1, lower byte 2
+abbrev pub header : List ℕ
+header = 1 ∷ 1 ∷ 1 ∷ 1 ∷ []
+
+abbrev pub location : List ℕ
+location = 5 ∷ 1 ∷ 0 ∷ 5 ∷ []
+
+abbrev pub edge : List ℕ
+edge = 15 ∷ 0 ∷ 0 ∷ 0 ∷ 5 ∷ 0 ∷ 2 ∷ 0 ∷ 1 ∷ 2 ∷ []
+
+-- "01 01 01 01 05 01 00 05 0F 00 00 00 05 00 02 00 01 02"
+abbrev pub bench : List ℕ
+bench = header ++ location ++ edge
+
+abbrev pub withBound : ℕ → List ℕ → List ℕ
+withBound b s = set s 7 b
+
+abbrev pub withLower : ℕ → List ℕ → List ℕ
+withLower b s = set s 17 b
+
+-- the edge's cost, by its two bytes
+abbrev pub withCost : ℕ → ℕ → List ℕ → List ℕ
+withCost low high s = set (set s 12 low) 13 high
+
+abbrev pub row : List ℕ → Says → Row
+row s a = record { bytes = s; says = a }
+
+-- "* marks the cases to be proved"
+unfoldable pub starred : List Row
+starred =
+    -- as given
+    row bench (accepts (pos 3) 1 7)
+    -- lower byte 03
+    ∷ row (withLower 3 bench) (accepts (pos 3) 1 7)
+    -- bound 04
+    ∷ row (withBound 4 bench) (accepts (pos 3) 1 6)
+    -- bounds 02, 01 and 00
+    ∷ row (withBound 2 bench) (refuses 13)
+    ∷ row (withBound 1 bench) (refuses 13)
+    ∷ row (withBound 0 bench) (refuses 11)
+    -- edge cost FC FF
+    ∷ row (withCost 252 255 bench) (accepts (negsuc 2) 2 7)
+    -- a second edge equal but for reward 3
+    ∷ row (set header 3 2 ++ location ++ edge ++ set edge 6 3) (accepts (pos 2) 1 7)
+    -- no edge, eight bytes
+    ∷ row (set header 3 0 ++ location) (refuses 13)
+    -- reward left out
+    ∷ row (header ++ location ++ 13 ∷ 0 ∷ 0 ∷ 0 ∷ 5 ∷ 0 ∷ 1 ∷ 2 ∷ []) (refuses 14)
+    -- a byte more
+    ∷ row (bench ++ 0 ∷ []) (refuses 10)
+    -- a byte less
+    ∷ row (take 17 bench) (refuses 5)
+    -- those without a mark: bounds 19 and 1A
+    ∷ row (withBound 25 bench) (accepts (pos 3) 1 37)
+    ∷ row (withBound 26 bench) (refuses 8)
+    -- bound 03 with lower byte 03
+    ∷ row (withBound 3 (withLower 3 bench)) (refuses 13)
+    -- edge cost FB FF
+    ∷ row (withCost 251 255 bench) (accepts (negsuc 1) 1 7)
+    -- lower byte 00
+    ∷ row (withLower 0 bench) (refuses 8)
+    -- edition 2 with L 0
+    ∷ row (set (set bench 0 2) 1 0) (refuses 3)
+    -- empty
+    ∷ row [] (refuses 2)
+    ∷ []
