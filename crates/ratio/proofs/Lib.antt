@@ -1,0 +1,4 @@
+pub mod Heights
+pub mod Bounds
+pub mod Searches
+pub mod TurnLaws

@@ -1,0 +1,2 @@
+-- A turn of the loop, over plain lists.
+use mathlib.Core.Path.{_≡_}
