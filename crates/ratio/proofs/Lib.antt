@@ -2,3 +2,5 @@ pub mod Heights
 pub mod Bounds
 pub mod Searches
 pub mod TurnLaws
+pub mod SumLaws
+pub mod SignLaws

@@ -1,7 +1,9 @@
 // The ratio of a cycle, in lowest terms.
 ghost use mathlib.Core.Path.{_≡_};
 ghost use Prim.Native.Nat.{ℕ, _≤_, _<_};
-ghost use lib.IntN.{ℤ, pos, natAbs};
+ghost use lib.IntN.{natAbs, _+ℤ_};
+ghost use mir.Syntax.{w64};
+ghost use mir.Val.{SFits};
 ghost use lib.ListN.{length, take};
 ghost use Rattle.integers.specs.Lowest.{Gcd, signedAs};
 ghost use Rattle.walks.specs.Walk.{at, atℤ};
@@ -15,9 +17,16 @@ pub(crate) struct Fraction {
 
 fn cost_of(cost: &[i16], e: usize) -> i64
     requires { ⌜ e < length (now cost) ⌝ }
-    ensures { λ r. ⌜ r ≡ atℤ (now (cost .entry)) e ⌝ }
+    ensures { λ r. ⌜ r ≡ atℤ (now (cost .entry)) e ⌝ ∗ ⌜ natAbs r ≤ 32768 ⌝ }
 {
     cost[e] as i64
+}
+
+fn add(x: i64, y: i64) -> i64
+    requires { ⌜ SFits w64 (x +ℤ y) ⌝ }
+    ensures { λ r. ⌜ r ≡ x +ℤ y ⌝ }
+{
+    x + y
 }
 
 fn reward_of(reward: &[u16], e: usize) -> u64
@@ -37,7 +46,7 @@ fn cost_sum(cost: &[i16], arcs: &[usize], k: usize) -> i64
     let mut i = k;
     while 0 < i {
         i -= 1;
-        z = cost_of(cost, arcs[i]) + z;
+        z = add(cost_of(cost, arcs[i]), z);
     }
     z
 }
