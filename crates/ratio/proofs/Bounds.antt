@@ -1,18 +1,20 @@
 -- How large the cost and the reward of a simple cycle can be, and what the code may sum up.
 use mathlib.Core.Path.{_≡_, sym, ap, subst, _∙_}
 use mathlib.Core.List.{List, [], _∷_}
-use Prim.Native.Nat.{ℕ, _+_, _*_, _≤_, _<_}
+use Prim.Native.Nat.{ℕ, _+_, _*_, _/_, _≤_, _<_}
 use native.Mathlib.Omega.{arith}
 use lib.ListN.{length, take}
-use lib.IntN.{ℤ, natAbs}
+use lib.IntN.{ℤ, pos, natAbs, *ℤ-comm}
 use lib.Seq.{length-take-le, getD-take}
+use Rattle.integers.specs.Lowest.{Gcd, signedAs}
 use Rattle.integers.proofs.Products.{abs-add}
+use Rattle.integers.proofs.Reduction.{lowest, same-ratio, no-larger}
 use Rattle.walks.specs.Walk.{at, atℤ, Walk}
 use Rattle.walks.specs.Weight.{sum, total}
 use Rattle.walks.specs.Form.{Graph}
 use Rattle.walks.proofs.Walks.{walk-arc}
 use Rattle.ratio.specs.Answer.{SimpleCycle}
-use Rattle.ratio.specs.Turns.{Summed, Ready, InHand}
+use Rattle.ratio.specs.Turns.{Reduced, Summed, Ready, InHand}
 
 module _ (F T : List ℕ) (cost : List ℤ) (reward : List ℕ) (n : ℕ) (g : Graph F T cost reward n) where
   cost-bound : (x : ℕ) (c : List ℕ) (y : ℕ) → Walk F T (length F) x c y → natAbs (sum (atℤ cost) c) ≤ 10000 * length c
@@ -47,4 +49,13 @@ summed F T cost reward n a b r hand k h = let g = r .formed .graph in record {
   rewards = λ i l. omega (arith, hand-arc F T cost reward n g hand k h i l, g .rewards);
   cost-small = hand-cost F T cost reward n g hand k h;
   earns = r .earns (h .cycle .hub) (take k hand) (h .cycle .reached) (h .cycle .cycle);
+}
+
+-- a fraction divided by the greatest common divisor
+pub reduced : (cost : ℤ) (reward g : ℕ) → Gcd (natAbs cost) reward g → 0 < reward → Reduced cost reward (signedAs (natAbs cost / g) cost) (reward / g)
+reduced cost reward g h r = record {
+  lowest = lowest cost reward g h r;
+  exact = sym (same-ratio cost reward g h r) ∙ *ℤ-comm (pos reward) (signedAs (natAbs cost / g) cost);
+  p-small = no-larger cost reward g h r .0;
+  q-small = no-larger cost reward g h r .1;
 }

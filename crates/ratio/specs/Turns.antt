@@ -48,6 +48,7 @@ Cheaper cost reward c d = (sum (atℤ cost) c *ℤ pos (total (at reward) d)) <�
 pub record Settled (F T : List ℕ) (cost : List ℤ) (reward : List ℕ) (n : ℕ) (potential potential' : List ℤ) (hand : List ℕ) (p : ℤ) (q k : ℕ) : Type 0 where
   pub in-hand : InHand F T n hand k
   pub ratio : RatioOf cost reward (take k hand) p q
+  pub p-small : natAbs p ≤ 20480000
   pub none-below : NoneNegative F T (length F) (weightOf (pos q) (negℤ p) (pos 0) cost reward)
   pub potentials : (v : ℕ) → v < n → Potential F T (length F) (weightOf (pos q) (negℤ p) (pos 0) cost reward) v (atℤ potential' v)
   pub rest : drop n potential' ≡ drop n potential

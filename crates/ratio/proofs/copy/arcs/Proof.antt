@@ -1,53 +1,54 @@
+-- After i turns the first i entries are copied.
+use mathlib.Core.Path.{_≡_, refl, ap, _∙_}
+use mathlib.Core.List.{_++_}
+use Prim.Native.Nat.{ℕ, _-_, _≤_}
+use native.Mathlib.Omega.{arith}
+use denote.Ref.{now}
+use lib.ListN.{length, length-set, take, drop}
+use Rattle.walks.proofs.Copies.{copy-more}
 use Rattle.ratio.proofs.copy.arcs.Statement.{statement}
 use Rattle.ratio.proofs.copy.arcs.Tie as tie
-use Rattle.ratio.proofs.copy.arcs.Reads as reads
-use Rattle.ratio.proofs.copy.arcs.Lts as lts
 
 abbrev Inv-loop : tie.InvT-loop
-Inv-loop s d₀ n i₀ d i = ?
+Inv-loop s d₀ n i₀ d i = (i ≤ n) × ((length d ≡ length d₀) × (d ≡ take i s ++ drop i d₀))
 
 abbrev μ-loop : tie.MeasureT-loop
-μ-loop s d₀ n i₀ d i = ?
+μ-loop s d₀ n i₀ d i = n - i
 
--- src/copy.rt:13:5
 loop-holds : tie.Need-loop-holds Inv-loop μ-loop
-loop-holds c = ?
+loop-holds c = (omega arith, (refl, refl))
 
--- src/copy.rt:14:17
 mul-x : tie.Need-mul-x Inv-loop μ-loop
-mul-x c = ?
+mul-x c = omega arith
 
--- src/copy.rt:14:17
 shared-slice-read-x : tie.Need-shared-slice-read-x Inv-loop μ-loop
-shared-slice-read-x c = ?
+shared-slice-read-x c = omega arith
 
--- src/copy.rt:15:9
 mul-d : tie.Need-mul-d Inv-loop μ-loop
-mul-d c = ?
+mul-d c = omega arith
 
--- src/copy.rt:15:9
 slice-write-d : tie.Need-slice-write-d Inv-loop μ-loop
-slice-write-d c = ?
+slice-write-d c = omega arith
 
--- src/copy.rt:16:9
 add-i : tie.Need-add-i Inv-loop μ-loop
-add-i c = ?
+add-i c = omega arith
 
--- src/copy.rt:13:5
 loop-less : tie.Need-loop-less Inv-loop μ-loop
-loop-less c = ?
+loop-less c = omega arith
 
--- src/copy.rt:13:5
 loop-again : tie.Need-loop-again Inv-loop μ-loop
-loop-again c = ?
+loop-again c = 
+    let s = c .before .before .before in
+    let l = c .before .before .loop in
+    (omega arith, (simp length-set (l .inv .1 .0), copy-more 0 (now (s .args .s)) (now (s .args .d)) (l .d) (l .i) (omega arith) (omega arith) (l .inv .1 .1)))
 
--- src/copy.rt:8:1
 same-length : tie.Need-same-length Inv-loop μ-loop
-same-length c = ?
+same-length c = omega arith
 
--- src/copy.rt:8:1
 returns : tie.Need-returns Inv-loop μ-loop
-returns c = ?
+returns c = 
+    let e : c .before .loop .i ≡ c .before .before .args .n = omega arith in
+    c .before .loop .inv .1 .1 ∙ ap (λ (i : ℕ). take i (now (c .before .before .args .s)) ++ drop i (now (c .before .before .args .d))) e
 
 pub arcs-spec : {M : Type 1} → statement M
 arcs-spec =
