@@ -1,7 +1,7 @@
 -- How large the cost and the reward of a simple cycle can be, and what the code may sum up.
-use mathlib.Core.Path.{_≡_, sym, ap, subst, _∙_}
+use mathlib.Core.Path.{_≡_, sym, subst, _∙_}
 use mathlib.Core.List.{List, [], _∷_}
-use Prim.Native.Nat.{ℕ, _+_, _*_, _/_, _≤_, _<_}
+use Prim.Native.Nat.{ℕ, _*_, _/_, _≤_, _<_}
 use native.Mathlib.Omega.{arith}
 use lib.ListN.{length, take}
 use lib.IntN.{ℤ, pos, natAbs, *ℤ-comm}
@@ -13,7 +13,6 @@ use Rattle.walks.specs.Walk.{at, atℤ, Walk}
 use Rattle.walks.specs.Weight.{sum, total}
 use Rattle.walks.specs.Form.{Graph}
 use Rattle.walks.proofs.Walks.{walk-arc}
-use Rattle.ratio.specs.Answer.{SimpleCycle}
 use Rattle.ratio.specs.Turns.{Reduced, Summed, Ready, InHand}
 
 module _ (F T : List ℕ) (cost : List ℤ) (reward : List ℕ) (n : ℕ) (g : Graph F T cost reward n) where

@@ -1,11 +1,11 @@
 -- The loop ends: from a cycle to a cheaper one the height of its ratio falls, a natural number.
 use mathlib.Core.Path.{_≡_, sym, ap, _∙_}
 use Prim.Native.Nat.{ℕ, _+_, _*_, _-_, _≤_, _<_}
-use native.Mathlib.Nat.{mul-le-mul, mul-le-mul-right, mul-comm, mul-assoc, add-mul, mul-zero, zero-mul, lt-of-mul-lt-mul-right, suc-mul}
+use native.Mathlib.Nat.{mul-le-mul, mul-le-mul-right, mul-comm, mul-assoc, add-mul, mul-zero, lt-of-mul-lt-mul-right, suc-mul}
 use native.Mathlib.Omega.{arith}
 use lib.IntN.{ℤ, pos, negℤ, natAbs, _+ℤ_, _*ℤ_}
-use lib.Signed.{_≤ℤ_, _<ℤ_}
-use Rattle.integers.proofs.Parts.{up, dn, abs-parts, neg-up, neg-dn, le-of, lt-of, le-parts, lt-parts, add-parts, mul-parts}
+use lib.Signed.{_<ℤ_}
+use Rattle.integers.proofs.Parts.{up, dn, abs-parts, neg-up, neg-dn, lt-of, lt-parts, add-parts, mul-parts}
 use Rattle.integers.proofs.Products.{up-times, dn-times}
 use Rattle.integers.proofs.Fractions.{units, units-fall, raised}
 
@@ -74,8 +74,8 @@ pub cheaper : (C c p : ℤ) (R r q : ℕ) (z : ℤ) → 0 < r → z ≡ pos q *�
 cheaper C c p R r q z hr e less same = lt-of (C *ℤ pos r) (c *ℤ pos R) (omega (
   arith,
   cross (up C) (dn C) (up c) (dn c) (up p) (dn p) R r q hr
-  (omega (arith, deducted C p R q z e, lt-parts z (pos 0) less, mul-comm q (dn C), mul-comm q (up C)))
-  (omega (arith, up-times q c, dn-times q c, right-times p r, ap up same, ap dn same)),
+      (omega (arith, deducted C p R q z e, lt-parts z (pos 0) less, mul-comm q (dn C), mul-comm q (up C)))
+      (omega (arith, up-times q c, dn-times q c, right-times p r, ap up same, ap dn same)),
   right-times C r,
   right-times c R,
 ))

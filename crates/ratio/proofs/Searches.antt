@@ -1,15 +1,14 @@
 -- What the answers of the searches for questions 13 and 14 say.
-use mathlib.Core.Path.{_≡_, ap, _∙_}
+use mathlib.Core.Path.{_≡_, ap}
 use mathlib.Core.List.{List}
-use Prim.Native.Nat.{ℕ, _+_, _*_, _≤_, _<_}
+use Prim.Native.Nat.{ℕ, _+_, _*_, _≤_}
 use native.Mathlib.Nat.{mul-one, zero-mul, mul-zero}
 use native.Mathlib.Omega.{arith}
 use lib.ListN.{length}
 use lib.IntN.{ℤ, pos, negsuc, _+ℤ_, _*ℤ_}
-use lib.Signed.{_≤ℤ_, _<ℤ_}
-use Rattle.integers.proofs.Parts.{up, dn, add-parts, mul-parts, le-parts, lt-parts}
+use Rattle.integers.proofs.Parts.{up, dn, add-parts, le-parts, lt-parts}
 use Rattle.integers.proofs.Products.{up-times, dn-times}
-use Rattle.walks.specs.Walk.{at, atℤ, Reached, Cycle}
+use Rattle.walks.specs.Walk.{at, atℤ}
 use Rattle.walks.specs.Weight.{weightOf, sum, total, NoneNegative, NegativeCycle}
 use Rattle.walks.proofs.Weights.{weight-sum}
 use Rattle.ratio.specs.Answer.{SimpleCycle, Acyclic, EachEarns, Idle}

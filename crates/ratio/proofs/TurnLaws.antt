@@ -11,7 +11,6 @@ use mir.ValLaws.{toZ-ofZ}
 use Rattle.integers.proofs.Parts.{abs-parts, neg-up, neg-dn}
 use Rattle.walks.specs.Walk.{at, atℤ}
 use Rattle.walks.specs.Weight.{weightOf, sum, total}
-use Rattle.walks.specs.Form.{InRange}
 use Rattle.walks.proofs.Weights.{weight-sum}
 use Rattle.graph.specs.Answer as Search
 use Rattle.graph.specs.declared.Answer.{Answer}
@@ -21,7 +20,7 @@ use Rattle.ratio.specs.Turns.{Reduced, Ready, InHand, Cheaper, Settled, 
 use Rattle.ratio.specs.declared.improve.Turn.{Turn}
 use Rattle.ratio.specs.declared.improve.Turn.the-variants.{Better, Done}
 use Rattle.ratio.proofs.Heights.{height, height-falls, cheaper}
-use Rattle.ratio.proofs.Bounds.{arcs, hand-cost, hand-reward}
+use Rattle.ratio.proofs.Bounds.{hand-cost, hand-reward}
 use Rattle.ratio.proofs.Searches.{simple-of}
 
 -- with the lengths that stay as they are

@@ -8,7 +8,6 @@ use Rattle.integers.specs.Lowest.{Lowest}
 use lib.Signed.{_<ℤ_}
 use Rattle.walks.specs.Walk.{at, atℤ}
 use Rattle.walks.specs.Weight.{weightOf, sum, total, NoneNegative, Potential}
-use Rattle.walks.specs.Form.{Graph}
 use Rattle.ratio.specs.Answer.{WellFormed, SimpleCycle, EachEarns, RatioOf}
 use Rattle.ratio.specs.declared.improve.Turn.{Turn}
 use Rattle.ratio.specs.declared.improve.Turn.the-variants.{Better, Done}

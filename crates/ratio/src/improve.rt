@@ -1,5 +1,4 @@
 // From a first cycle to one of the least ratio.
-ghost use Prim.Native.Nat.{_≤_};
 ghost use lib.ListN.{length};
 ghost use Rattle.ratio.specs.Answer.{WellFormed, Judged};
 ghost use Rattle.ratio.specs.Turns.{Ready, InHand, Turned, Settled};

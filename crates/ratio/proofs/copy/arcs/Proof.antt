@@ -37,7 +37,7 @@ loop-less : tie.Need-loop-less Inv-loop μ-loop
 loop-less c = omega arith
 
 loop-again : tie.Need-loop-again Inv-loop μ-loop
-loop-again c = 
+loop-again c =
     let s = c .before .before .before in
     let l = c .before .before .loop in
     (omega arith, (simp length-set (l .inv .1 .0), copy-more 0 (now (s .args .s)) (now (s .args .d)) (l .d) (l .i) (omega arith) (omega arith) (l .inv .1 .1)))
@@ -46,7 +46,7 @@ same-length : tie.Need-same-length Inv-loop μ-loop
 same-length c = omega arith
 
 returns : tie.Need-returns Inv-loop μ-loop
-returns c = 
+returns c =
     let e : c .before .loop .i ≡ c .before .before .args .n = omega arith in
     c .before .loop .inv .1 .1 ∙ ap (λ (i : ℕ). take i (now (c .before .before .args .s)) ++ drop i (now (c .before .before .args .d))) e
 

@@ -42,7 +42,7 @@ loop-less : tie.Need-loop-less Inv-loop μ-loop
 loop-less c = omega arith
 
 loop-again : tie.Need-loop-again Inv-loop μ-loop
-loop-again c = 
+loop-again c =
     let s = c .before .before .before .before .before .before in
     let l = c .before .before .before .before .loop in
     let x = toZ w64 (l .z) in
@@ -50,13 +50,16 @@ loop-again c =
     let j = s .args .k - l .i in
     let e = sum-again x y j (omega (arith, s .pre .1 .0)) (l .inv .1 .1) (c .before .cost-of .ensures .1) (c .add .result) (c .add .ensures) in
     let b = sum-bound x y j (omega (arith, s .pre .1 .0)) (l .inv .1 .1) (c .before .cost-of .ensures .1) in
-    let t = c .before .before .before .loop-test .taken in
-    (omega (arith, l .inv .0),
-      (e ∙ ap₂ _+ℤ_ (c .before .cost-of .ensures .0) (l .inv .1 .0) ∙ sym (sum-more (now (c .before .before .before .before .before .before .args .arcs)) (l .i) (s .args .k) (omega arith) (l .inv .0) (s .pre .0) (atℤ (now (c .before .before .before .before .before .before .args .cost)))),
-      rw e (omega (arith, b))))
+    let t = c .before .before .before .loop-test .taken in (
+      omega (arith, l .inv .0),
+      (
+        e ∙ ap₂ _+ℤ_ (c .before .cost-of .ensures .0) (l .inv .1 .0) ∙ sym (sum-more (now (c .before .before .before .before .before .before .args .arcs)) (l .i) (s .args .k) (omega arith) (l .inv .0) (s .pre .0) (atℤ (now (c .before .before .before .before .before .before .args .cost)))),
+        rw e (omega (arith, b)),
+      ),
+    )
 
 returns : tie.Need-returns Inv-loop μ-loop
-returns c = 
+returns c =
     let l = c .before .loop in
     let z : l .i ≡ 0 = omega arith in
     l .inv .1 .0 ∙ ap (λ (n : ℕ). sum (atℤ (now (c .before .before .before .args .cost))) (slice n (c .before .before .before .args .k) (now (c .before .before .before .args .arcs)))) z

@@ -28,7 +28,7 @@ reduce-requires : tie.Need-reduce-requires
 reduce-requires c κs = (rw (back (c .before .cost-sum .ensures) (sum-fits c)) (c .before .before .before .before .pre .cost-small), rw (c .reward-sum .ensures) (c .before .before .before .before .pre .earns))
 
 returns : tie.Need-returns
-returns c = 
+returns c =
     let s = c .before .before .before .before .before in
     subst₂ (λ (x : ℤ) (y : ℕ). Reduced x y (c .reduce .result .p) (c .reduce .result .q)) (back (c .before .before .cost-sum .ensures) (sum-fits (c .before))) (c .before .reward-sum .ensures) (c .reduce .ensures)
 

@@ -22,14 +22,14 @@ loop-less : tie.Need-loop-less Inv-loop μ-loop
 loop-less c = mod-lt (c .before .loop .x) (omega arith)
 
 loop-again : tie.Need-loop-again Inv-loop μ-loop
-loop-again c = 
+loop-again c =
     let l = c .before .loop in (
       (λ d h k. (l .inv .0 d h k .1, dvd-mod-iff d {m = l .x} (l .inv .0 d h k .1) .1 (l .inv .0 d h k .0))),
       (λ d h k. l .inv .1 d (dvd-mod-iff d {m = l .x} h .0 k) h),
     )
 
 returns : tie.Need-returns Inv-loop μ-loop
-returns c = 
+returns c =
     let l = c .before .loop in
     let z : l .x ∣ l .y = subst⁻¹ (λ (n : ℕ). l .x ∣ n) (c .loop-test .left) (dvd-zero (l .x)) in
     record {

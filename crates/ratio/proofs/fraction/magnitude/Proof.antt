@@ -28,7 +28,7 @@ cast-result : tie.Need-cast-result
 cast-result c = cast-pos _ (natAbs (c .before .args .z)) (omega (arith, c .before .pre)) (back (turned-is c) (big c))
 
 cast-result-2 : tie.Need-cast-result-2
-cast-result-2 c = 
+cast-result-2 c =
     let z = c .before .args .z in
     let e = toZ-ofZ w64 z (c .before .fits .z) in
     cast-pos _ (natAbs z) (omega (arith, c .before .pre)) (e ∙ kept z (ap (λ (x : ℤ). ltZ x (pos 0)) (sym e) ∙ c .if1 .left))

@@ -40,7 +40,7 @@ div-t6 : tie.Need-div-t6
 div-t6 c = positive (c .before)
 
 returns : tie.Need-returns
-returns c = 
+returns c =
     let a = c .before .before .before .args in
     let g = c .before .gcd .result in
     let e : toZ w64 (ofZ w64 (c .with-sign .result)) ≡ signedAs (natAbs (a .cost) / g) (a .cost) =

@@ -39,16 +39,19 @@ loop-less : tie.Need-loop-less Inv-loop μ-loop
 loop-less c = omega arith
 
 loop-again : tie.Need-loop-again Inv-loop μ-loop
-loop-again c = 
+loop-again c =
     let s = c .before .before .before .before .before .before in
     let l = c .before .before .before .loop in
-    let t = c .before .before .loop-test .taken in
-    (omega (arith, l .inv .0),
-      (ap₂ _+_ (c .reward-of .ensures .0) (l .inv .1 .0) ∙ sym (total-more (now (c .before .before .before .before .before .before .args .arcs)) (l .i) (s .args .k) (omega arith) (l .inv .0) (s .pre .0) (at (now (c .before .before .before .before .before .before .args .reward)))),
-      omega (arith, l .inv .1 .1, l .inv .0, c .reward-of .ensures .1)))
+    let t = c .before .before .loop-test .taken in (
+      omega (arith, l .inv .0),
+      (
+        ap₂ _+_ (c .reward-of .ensures .0) (l .inv .1 .0) ∙ sym (total-more (now (c .before .before .before .before .before .before .args .arcs)) (l .i) (s .args .k) (omega arith) (l .inv .0) (s .pre .0) (at (now (c .before .before .before .before .before .before .args .reward)))),
+        omega (arith, l .inv .1 .1, l .inv .0, c .reward-of .ensures .1),
+      ),
+    )
 
 returns : tie.Need-returns Inv-loop μ-loop
-returns c = 
+returns c =
     let l = c .before .loop in
     let z : l .i ≡ 0 = omega arith in
     l .inv .1 .0 ∙ ap (λ (n : ℕ). total (at (now (c .before .before .before .before .args .reward))) (slice n (c .before .before .before .before .args .k) (now (c .before .before .before .before .args .arcs)))) z

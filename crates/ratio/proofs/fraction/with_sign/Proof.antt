@@ -30,13 +30,13 @@ cast-result-2 : tie.Need-cast-result-2
 cast-result-2 c = search needs
 
 returns : tie.Need-returns
-returns c = 
+returns c =
     let z = c .before .args .z in
     back (neg-is c) (neg-fits (c .before .args .n) (omega (arith, c .before .pre)))
     ∙ as-negative (c .before .args .n) z (ap (λ (x : ℤ). ltZ x (pos 0)) (sym (toZ-ofZ w64 z (c .before .fits .z))) ∙ c .if1 .taken)
 
 returns-2 : tie.Need-returns-2
-returns-2 c = 
+returns-2 c =
     let z = c .before .args .z in
     toZ-pos w64 (c .before .args .n) (omega (arith, c .before .pre))
     ∙ as-positive (c .before .args .n) z (ap (λ (x : ℤ). ltZ x (pos 0)) (sym (toZ-ofZ w64 z (c .before .fits .z))) ∙ c .if1 .left)

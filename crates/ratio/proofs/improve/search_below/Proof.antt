@@ -1,5 +1,5 @@
 -- The search at the ratio of the cycle in hand.
-use mathlib.Core.Path.{_≡_, ap, subst⁻¹, _∙_}
+use mathlib.Core.Path.{_≡_, ap, _∙_}
 use Prim.Native.Nat.{_≤_}
 use borrow.Author.Needs.{needs}
 use native.Mathlib.Omega.{arith}
@@ -11,7 +11,6 @@ use mir.ValLaws.{toZ-ofZ, toZ-pos}
 use Rattle.integers.proofs.Parts.{abs-parts, neg-up, neg-dn}
 use Rattle.integers.proofs.Machine.{small, back, carry}
 use Rattle.graph.specs.Answer.{Answered}
-use Rattle.ratio.specs.Turns.{Settled}
 use Rattle.ratio.proofs.Bounds.{summed}
 use Rattle.ratio.proofs.TurnLaws.{p-small, q-small, never, better, done, coded, again-settled}
 use Rattle.ratio.proofs.improve.search_below.Statement.{statement}
@@ -82,7 +81,7 @@ same-length-2 : tie.Need-same-length-2
 same-length-2 c = search needs
 
 returns : tie.Need-returns
-returns c = 
+returns c =
     let s = c .before .before .before .before .before .before .before .before .before .before .before .before .before .before .before in
     let f = c .before .before .before .before .before .before .before .before .before .fraction-of in
     let r = c .before .before .before .before .before .negative-cycle in
@@ -95,7 +94,7 @@ same-length-4 : tie.Need-same-length-4
 same-length-4 c = search needs
 
 returns-2 : tie.Need-returns-2
-returns-2 c = 
+returns-2 c =
     let s = c .before .before .before .before .before .before .before .before .before .before .before .before .before .before .before .before in
     let f = c .before .before .before .before .before .before .before .before .before .before .fraction-of in
     let r = c .before .before .before .before .before .before .negative-cycle in
@@ -108,7 +107,7 @@ same-length-6 : tie.Need-same-length-6
 same-length-6 c = search needs
 
 returns-3 : tie.Need-returns-3
-returns-3 c = 
+returns-3 c =
     let s = c .before .before .before .before .before .before .before .before .before .before .before .before .before .before .before in
     let f = c .before .before .before .before .before .before .before .before .before .fraction-of in
     let r = c .before .before .before .before .before .negative-cycle in

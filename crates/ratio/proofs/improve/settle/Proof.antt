@@ -33,13 +33,13 @@ enum-known-t : tie.Need-enum-known-t Inv-loop μ-loop
 enum-known-t c = search needs
 
 loop-less : tie.Need-loop-less Inv-loop μ-loop
-loop-less c = 
+loop-less c =
     let r = c .before .before .before .before .before .before .search-below in
     let b = was-better (now (c .before .before .before .before .before .before .before .before .before .before .before .before .before .before .args .from)) (now (c .before .before .before .before .before .before .before .before .before .before .before .before .before .before .args .to)) (now (c .before .before .before .before .before .before .before .before .before .before .before .before .before .before .args .cost)) (now (c .before .before .before .before .before .before .before .before .before .before .before .before .before .before .args .reward)) (c .before .before .before .before .before .before .before .before .before .before .before .before .before .before .args .nodes) (c .before .before .before .before .before .before .before .before .before .loop .arcs) (c .before .before .before .before .before .before .before .before .before .loop .potential) (r .last .1 .1 .1 .1 .1 .0) (c .before .before .before .before .before .before .before .before .before .loop .hand) (r .last .1 .1 .1 .1 .1 .1 .0) (r .result) (r .ensures) (c .before .t .given .0 .0) (c .before .t .given .1) in
     falls (now (c .before .before .before .before .before .before .before .before .before .before .before .before .before .before .args .from)) (now (c .before .before .before .before .before .before .before .before .before .before .before .before .before .before .args .to)) (now (c .before .before .before .before .before .before .before .before .before .before .before .before .before .before .args .cost)) (now (c .before .before .before .before .before .before .before .before .before .before .before .before .before .before .args .reward)) (c .before .before .before .before .before .before .before .before .before .before .before .before .before .before .args .nodes) _ _ (c .before .before .before .before .before .before .before .before .before .before .before .before .before .before .pre .0) (c .before .before .before .before .before .before .before .before .before .loop .hand) (c .before .before .before .before .before .before .before .before .before .loop .arcs) (c .before .before .before .before .before .before .before .before .before .loop .inv .0) _ (c .before .t .given .0 .0) (b .in-hand) (b .cheaper)
 
 loop-again : tie.Need-loop-again Inv-loop μ-loop
-loop-again c = 
+loop-again c =
     let r = c .before .before .before .before .before .before .search-below in
     let b = was-better (now (c .before .before .before .before .before .before .before .before .before .before .before .before .before .before .args .from)) (now (c .before .before .before .before .before .before .before .before .before .before .before .before .before .before .args .to)) (now (c .before .before .before .before .before .before .before .before .before .before .before .before .before .before .args .cost)) (now (c .before .before .before .before .before .before .before .before .before .before .before .before .before .before .args .reward)) (c .before .before .before .before .before .before .before .before .before .before .before .before .before .before .args .nodes) (c .before .before .before .before .before .before .before .before .before .loop .arcs) (c .before .before .before .before .before .before .before .before .before .loop .potential) (r .last .1 .1 .1 .1 .1 .0) (c .before .before .before .before .before .before .before .before .before .loop .hand) (r .last .1 .1 .1 .1 .1 .1 .0) (r .result) (r .ensures) (c .before .t .given .0 .0) (c .before .t .given .1) in
     (b .in-hand, (r .kept .1 .1 .1 .1 .1 .1 .0 ∙ c .before .before .before .before .before .before .before .before .before .loop .inv .1 .0, b .kept ∙ c .before .before .before .before .before .before .before .before .before .loop .inv .1 .1))
@@ -54,7 +54,7 @@ same-length-2 : tie.Need-same-length-2 Inv-loop μ-loop
 same-length-2 c = c .before .before .before .before .before .before .search-below .kept .1 .1 .1 .1 .1 .1 .0 ∙ c .before .before .before .before .before .before .before .before .before .loop .inv .1 .0
 
 returns : tie.Need-returns Inv-loop μ-loop
-returns c = 
+returns c =
     let r = c .before .before .before .before .before .before .search-below in
     let g = c .before .t2 .given in
     let d = was-done (now (c .before .before .before .before .before .before .before .before .before .before .before .before .before .before .args .from)) (now (c .before .before .before .before .before .before .before .before .before .before .before .before .before .before .args .to)) (now (c .before .before .before .before .before .before .before .before .before .before .before .before .before .before .args .cost)) (now (c .before .before .before .before .before .before .before .before .before .before .before .before .before .before .args .reward)) (c .before .before .before .before .before .before .before .before .before .before .before .before .before .before .args .nodes) (c .before .before .before .before .before .before .before .before .before .loop .arcs) (c .before .before .before .before .before .before .before .before .before .loop .potential) (r .last .1 .1 .1 .1 .1 .0) (c .before .before .before .before .before .before .before .before .before .loop .hand) (r .last .1 .1 .1 .1 .1 .1 .0) (r .result) (r .ensures) (g .0 .0) (g .0 .1 .0) (g .1) in
