@@ -4,14 +4,9 @@ use Prim.Native.Nat.{ℕ, zero, suc, _*_, _/_, _≤_, _<_, _∣_}
 use native.Mathlib.Nat.{mul-comm, mul-assoc, mul-one, mul-zero, mul-div-cancel', pos-of-dvd-of-pos, mul-dvd-mul-left, dvd-of-mul-dvd-mul-left, eq-one-of-dvd-one, div-le-self}
 use native.Mathlib.Omega.{arith}
 use lib.IntN.{ℤ, pos, negsuc, negℤ, natAbs, _*ℤ_}
-use Rattle.integers.specs.Lowest.{Gcd, Lowest}
+use Rattle.integers.specs.Lowest.{Gcd, Lowest, signedAs}
 use Rattle.integers.proofs.Parts.{ext, neg-up, neg-dn}
 use Rattle.integers.proofs.Products.{up-times, dn-times}
-
--- n, with the sign of z
-abbrev pub signedAs : ℕ → ℤ → ℤ
-signedAs n (pos m) = pos n
-signedAs n (negsuc m) = negℤ (pos n)
 
 pub abs-as : (n : ℕ) (z : ℤ) → natAbs (signedAs n z) ≡ n
 abs-as n (pos m) = refl

@@ -1,7 +1,12 @@
 -- Fractions in lowest terms.
 use mathlib.Core.Path.{_≡_}
 use Prim.Native.Nat.{ℕ, _<_, _∣_}
-use lib.IntN.{ℤ, natAbs}
+use lib.IntN.{ℤ, pos, negsuc, negℤ, natAbs}
+
+-- n, with the sign of z
+abbrev pub signedAs : ℕ → ℤ → ℤ
+signedAs n (pos m) = pos n
+signedAs n (negsuc m) = negℤ (pos n)
 
 -- g is the greatest common divisor of a and b
 pub record Gcd (a b g : ℕ) : Type 0 where

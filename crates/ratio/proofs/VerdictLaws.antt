@@ -1,0 +1,73 @@
+-- The searches for questions 13 and 14 by their answers, and the answer that holds the least ratio.
+use mathlib.Core.Path.{_≡_, sym, ap, subst, _∙_}
+use mathlib.Core.List.{List, _++_}
+use Prim.Native.Nat.{ℕ, _≤_}
+use native.Mathlib.Omega.{arith}
+use lib.ListN.{length, take, drop, replicate, length-take, length-replicate}
+use lib.IntN.{ℤ, pos, negsuc}
+use lib.Seq.{length-take-le, take-at, drop-at}
+use Rattle.walks.specs.Form.{Graph}
+use Rattle.graph.specs.Answer as Search
+use Rattle.graph.specs.declared.Answer.{Answer}
+use Rattle.graph.specs.declared.Answer.the-variants.{Malformed, Cycle, Potentials}
+use Rattle.ratio.specs.Answer.{SimpleCycle, EachEarns, Idle, RatioOf, RatioFound}
+use Rattle.ratio.specs.Turns.{InHand, Settled}
+use Rattle.ratio.proofs.Searches.{simple-of, idle}
+use Rattle.walks.specs.Weight.{weightOf}
+
+-- a buffer of 2,048 entries has room
+pub room : {A : Type 0} {n : ℕ} (x : A) → n ≤ 2048 → n ≤ length (replicate 2048 x)
+room x h = omega (arith, length-replicate 2048 x)
+
+-- the search at (0, b, -1)
+module _ (F T : List ℕ) (cost : List ℤ) (reward : List ℕ) (n b : ℕ) (hb : b ≤ 2049) (potential potential' : List ℤ) (arcs arcs' : List ℕ)
+    (A : Answer) (z : Search.Answered F T cost reward (pos 0) (pos b) (negsuc 0) n potential potential' arcs arcs' A) where
+  abbrev Is : Answer → Type 0
+  Is = Search.Answered F T cost reward (pos 0) (pos b) (negsuc 0) n potential potential' arcs arcs'
+
+  -- malformed arguments are no graph
+  pub no-graph : n ≤ length potential → n ≤ length arcs → A ≡ Malformed → Graph F T cost reward n → ⊥
+  no-graph hp ha e g = subst Is e z .0 (record { graph = g; in-range = record { a-small = omega arith; b-small = omega arith; c-small = omega arith }; potential-room = hp; cycle-room = ha })
+
+  pub found : (k : ℕ) → A ≡ Cycle k → Graph F T cost reward n × Search.CycleFound F T (weightOf (pos 0) (pos b) (negsuc 0) cost reward) n k potential potential' arcs arcs'
+  found k e = let y = subst Is e z in (y .0 .graph, y .1)
+
+  pub none : A ≡ Potentials → Graph F T cost reward n × Search.PotentialsFound F T (weightOf (pos 0) (pos b) (negsuc 0) cost reward) n potential potential' arcs arcs'
+  none e = let y = subst Is e z in (y .0 .graph, y .1)
+
+-- question 13
+module _ (F T : List ℕ) (cost : List ℤ) (reward : List ℕ) (n : ℕ) (potential potential' : List ℤ) (arcs arcs' : List ℕ) where
+  pub first-hand : (k : ℕ) → length arcs' ≡ length arcs → n ≤ length arcs
+      → Search.CycleFound F T (weightOf (pos 0) (pos 0) (negsuc 0) cost reward) n k potential potential' arcs arcs' → InHand F T n arcs' k
+  first-hand k e h g = record {
+    short = g .short;
+    room = omega arith;
+    cycle = simple-of F T (length F) (weightOf (pos 0) (pos 0) (negsuc 0) cost reward) (take k arcs') (g .negative);
+  }
+
+-- question 14
+pub idle-found : (F T : List ℕ) (cost : List ℤ) (reward : List ℕ) (n : ℕ) (potential potential' : List ℤ) (arcs arcs' : List ℕ) (k : ℕ) → Graph F T cost reward n
+    → Search.CycleFound F T (weightOf (pos 0) (pos 2049) (negsuc 0) cost reward) n k potential potential' arcs arcs' → Idle F T (length F) reward
+idle-found F T cost reward n potential potential' arcs arcs' k g c =
+    idle F T (length F) cost reward (take k arcs') (omega (arith, length-take k arcs', c .short, g .nodes)) (c .negative)
+
+-- the least ratio, with the cycle copied to the front of the lent buffer
+pub ratio-found : (F T : List ℕ) (cost : List ℤ) (reward : List ℕ) (n : ℕ) (potential potential' : List ℤ) (hand cycle cycle' : List ℕ) (p : ℤ) (q k : ℕ)
+    → EachEarns F T (length F) reward → Settled F T cost reward n potential potential' hand p q k → cycle' ≡ take k hand ++ drop k cycle
+    → RatioFound F T cost reward n p q k potential potential' cycle cycle'
+ratio-found F T cost reward n potential potential' hand cycle cycle' p q k earns s e = record {
+  short = s .in-hand .short;
+  attained = subst (SimpleCycle F T (length F)) (sym front) (s .in-hand .cycle);
+  ratio = subst (λ (c : List ℕ). RatioOf cost reward c p q) (sym front) (s .ratio);
+  earns = earns;
+  none-below = s .none-below;
+  potentials = s .potentials;
+  rest-potential = s .rest;
+  rest-cycle = ap (drop k) e ∙ drop-at (take k hand) (drop k cycle) k sized;
+}
+  where
+    sized : length (take k hand) ≡ k
+    sized = length-take-le k hand (omega (arith, s .in-hand .short, s .in-hand .room))
+
+    front : take k cycle' ≡ take k hand
+    front = ap (take k) e ∙ take-at (take k hand) (drop k cycle) k sized

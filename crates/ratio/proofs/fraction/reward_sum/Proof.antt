@@ -1,0 +1,73 @@
+-- From the last arc to the first: the sum of those passed.
+use mathlib.Core.Path.{_≡_, sym, ap, ap₂, _∙_}
+use Prim.Native.Nat.{ℕ, _+_, _-_, _*_, _≤_}
+use borrow.Author.Needs.{needs}
+use native.Mathlib.Omega.{arith}
+use denote.Ref.{now}
+use lib.Seq.{slice}
+use Rattle.walks.specs.Walk.{at}
+use Rattle.walks.specs.Weight.{total}
+use Rattle.ratio.proofs.SumLaws.{total-none, total-more}
+use Rattle.ratio.proofs.fraction.reward_sum.Statement.{statement}
+use Rattle.ratio.proofs.fraction.reward_sum.Tie as tie
+
+abbrev Inv-loop : tie.InvT-loop
+Inv-loop reward arcs k x₀ i₀ x i = (i ≤ k) × ((x ≡ total (at reward) (slice i k arcs)) × (x ≤ 65536 * (k - i)))
+
+abbrev μ-loop : tie.MeasureT-loop
+μ-loop reward arcs k x₀ i₀ x i = i
+
+loop-holds : tie.Need-loop-holds Inv-loop μ-loop
+loop-holds c = (search needs, (total-none (at (now (c .before .before .args .reward))) (now (c .before .before .args .arcs)) (c .before .before .args .k), omega arith))
+
+sub-i : tie.Need-sub-i Inv-loop μ-loop
+sub-i c = omega arith
+
+mul-reward-of : tie.Need-mul-reward-of Inv-loop μ-loop
+mul-reward-of c = omega (arith, c .before .before .before .before .pre .0, c .before .before .before .before .good .1 .0 .1, c .before .loop .inv .0)
+
+shared-slice-read-reward-of : tie.Need-shared-slice-read-reward-of Inv-loop μ-loop
+shared-slice-read-reward-of c = omega (arith, c .before .before .before .before .before .pre .0, c .before .before .loop .inv .0, c .before .loop-test .taken)
+
+reward-of-requires : tie.Need-reward-of-requires Inv-loop μ-loop
+reward-of-requires c κs = c .before .before .before .before .before .pre .1 .1 (c .before .before .loop .i - 1) (omega (arith, c .before .loop-test .taken, c .before .before .loop .inv .0))
+
+add-x : tie.Need-add-x Inv-loop μ-loop
+add-x c = omega (arith, c .before .before .before .before .before .before .pre .1 .0, c .reward-of .ensures .1, c .before .before .before .loop .inv .1 .1)
+
+loop-less : tie.Need-loop-less Inv-loop μ-loop
+loop-less c = omega arith
+
+loop-again : tie.Need-loop-again Inv-loop μ-loop
+loop-again c =
+    let s = c .before .before .before .before .before .before in
+    let l = c .before .before .before .loop in
+    let t = c .before .before .loop-test .taken in (
+      omega (arith, l .inv .0),
+      (
+        ap₂ _+_ (c .reward-of .ensures .0) (l .inv .1 .0) ∙ sym (total-more (now (c .before .before .before .before .before .before .args .arcs)) (l .i) (s .args .k) (omega arith) (l .inv .0) (s .pre .0) (at (now (c .before .before .before .before .before .before .args .reward)))),
+        omega (arith, l .inv .1 .1, l .inv .0, c .reward-of .ensures .1),
+      ),
+    )
+
+returns : tie.Need-returns Inv-loop μ-loop
+returns c =
+    let l = c .before .loop in
+    let z : l .i ≡ 0 = omega arith in
+    l .inv .1 .0 ∙ ap (λ (n : ℕ). total (at (now (c .before .before .before .before .args .reward))) (slice n (c .before .before .before .before .args .k) (now (c .before .before .before .before .args .arcs)))) z
+
+pub reward-sum-spec : {M : Type 1} → statement M
+reward-sum-spec =
+    tie.close
+    (tie.spec
+    Inv-loop
+    μ-loop
+    loop-holds
+    sub-i
+    mul-reward-of
+    shared-slice-read-reward-of
+    reward-of-requires
+    add-x
+    loop-less
+    loop-again
+    returns)

@@ -1,0 +1,137 @@
+-- The search at the ratio of the cycle in hand.
+use mathlib.Core.Path.{_≡_, ap, _∙_}
+use Prim.Native.Nat.{_≤_}
+use borrow.Author.Needs.{needs}
+use native.Mathlib.Omega.{arith}
+use denote.Ref.{now}
+use lib.IntN.{ℤ, pos, negℤ, natAbs, _-ℤ_, +ℤ-idl}
+use mir.Syntax.{w64}
+use mir.Val.{SFits, toZ, ofZ}
+use mir.ValLaws.{toZ-ofZ, toZ-pos}
+use Rattle.integers.proofs.Parts.{abs-parts, neg-up, neg-dn}
+use Rattle.integers.proofs.Machine.{small, back, carry}
+use Rattle.graph.specs.Answer.{Answered}
+use Rattle.ratio.proofs.Bounds.{summed}
+use Rattle.ratio.proofs.TurnLaws.{p-small, q-small, never, better, done, coded, again-settled}
+use Rattle.ratio.proofs.improve.search_below.Statement.{statement}
+use Rattle.ratio.proofs.improve.search_below.Tie as tie
+
+-- the entry, from the call that gave the ratio of the cycle in hand; and that call, from the search
+abbrev S : tie.After-fraction-of → tie.Start
+S c = c .before .before .before .before .before .before
+
+abbrev R : tie.After-negative-cycle → tie.After-fraction-of
+R c = c .before .before .before .before
+
+p-of : (c : tie.After-fraction-of) → natAbs (c .fraction-of .result .p) ≤ 20480000
+p-of c = let s = S c in
+    p-small (now (s .args .from)) (now (s .args .to)) (now (s .args .cost)) (now (s .args .reward)) (s .args .nodes) _ _ (s .pre .0) (now (s .args .hand)) (s .args .k) (s .pre .1)
+    (c .fraction-of .result .p) (c .fraction-of .result .q) (c .fraction-of .ensures)
+
+q-of : (c : tie.After-fraction-of) → c .fraction-of .result .q ≤ 20480000
+q-of c = let s = S c in
+    q-small (now (s .args .from)) (now (s .args .to)) (now (s .args .cost)) (now (s .args .reward)) (s .args .nodes) _ _ (s .pre .0) (now (s .args .hand)) (s .args .k) (s .pre .1)
+    (c .fraction-of .result .p) (c .fraction-of .result .q) (c .fraction-of .ensures)
+
+fits-p : (c : tie.After-fraction-of) → SFits w64 (c .fraction-of .result .p)
+fits-p c = small _ 20480001 (omega (arith, p-of c)) (omega arith)
+
+fits-neg : (c : tie.After-fraction-of) → SFits w64 (negℤ (c .fraction-of .result .p))
+fits-neg c = let p = c .fraction-of .result .p in
+    small (negℤ p) 20480001 (omega (arith, p-of c, abs-parts p, abs-parts (negℤ p), neg-up p, neg-dn p)) (omega arith)
+
+neg-is : (c : tie.After-fraction-of) → pos 0 -ℤ toZ w64 (ofZ w64 (c .fraction-of .result .p)) ≡ negℤ (c .fraction-of .result .p)
+neg-is c = let p = c .fraction-of .result .p in
+    ap (λ (x : ℤ). pos 0 -ℤ x) (toZ-ofZ w64 p (fits-p c)) ∙ +ℤ-idl (negℤ p)
+
+-- what the search answered, at the ratio
+found-is : (c : tie.After-negative-cycle) → Answered (now (S (R c) .args .from)) (now (S (R c) .args .to)) (now (S (R c) .args .cost)) (now (S (R c) .args .reward))
+    (pos (R c .fraction-of .result .q)) (negℤ (R c .fraction-of .result .p)) (pos 0) (S (R c) .args .nodes) (now (S (R c) .args .potential)) (c .negative-cycle .last .1 .1 .1 .1 .1 .1 .0)
+    (now (S (R c) .args .hand)) (c .negative-cycle .last .1 .1 .1 .1 .1 .1 .1 .0) (c .negative-cycle .result)
+found-is c = let s = S (R c) in let f = R c .fraction-of .result in
+    coded (now (s .args .from)) (now (s .args .to)) (now (s .args .cost)) (now (s .args .reward)) (f .p) (f .q) (s .args .nodes) (now (s .args .potential))
+    (c .negative-cycle .last .1 .1 .1 .1 .1 .1 .0) (now (s .args .hand)) (c .negative-cycle .last .1 .1 .1 .1 .1 .1 .1 .0) (c .negative-cycle .result)
+    (toZ-pos w64 (f .q) (omega (arith, q-of (R c)))) (back (neg-is (R c)) (fits-neg (R c))) (c .negative-cycle .ensures)
+
+fraction-of-requires : tie.Need-fraction-of-requires
+fraction-of-requires c κs = summed (now (c .before .before .before .before .before .args .from)) (now (c .before .before .before .before .before .args .to)) (now (c .before .before .before .before .before .args .cost)) (now (c .before .before .before .before .before .args .reward)) (c .before .before .before .before .before .args .nodes) _ _ (c .before .before .before .before .before .pre .0) (now (c .before .before .before .before .before .args .hand)) (c .before .before .before .before .before .args .k) (c .before .before .before .before .before .pre .1)
+
+cast-t17 : tie.Need-cast-t17
+cast-t17 c = small _ 20480001 (omega (arith, q-of (c .before))) (omega arith)
+
+sub-t18 : tie.Need-sub-t18
+sub-t18 c = carry (fits-neg (c .before)) (neg-is (c .before))
+
+negative-cycle-requires : tie.Need-negative-cycle-requires
+negative-cycle-requires c κs = search needs
+
+enum-told : tie.Need-enum-told
+enum-told c = search needs
+
+enum-known-found : tie.Need-enum-known-found
+enum-known-found c = search needs
+
+enum-told-2 : tie.Need-enum-told-2
+enum-told-2 c = search needs
+
+same-length : tie.Need-same-length
+same-length c = search needs
+
+same-length-2 : tie.Need-same-length-2
+same-length-2 c = search needs
+
+returns : tie.Need-returns
+returns c =
+    let s = c .before .before .before .before .before .before .before .before .before .before .before .before .before .before .before in
+    let f = c .before .before .before .before .before .before .before .before .before .fraction-of in
+    let r = c .before .before .before .before .before .negative-cycle in
+    never (now (s .args .from)) (now (s .args .to)) (now (s .args .cost)) (now (s .args .reward)) (s .args .nodes) _ _ (s .pre .0) (now (s .args .hand)) (s .args .k) (s .pre .1) (f .result .p) (f .result .q) (f .ensures) (now (s .args .potential)) (r .last .1 .1 .1 .1 .1 .1 .0) (r .last .1 .1 .1 .1 .1 .1 .1 .0) (s .pre .0 .formed .potential-room) (r .result) (found-is (c .before .before .before .before .before)) (c .enum-told .given .1)
+
+same-length-3 : tie.Need-same-length-3
+same-length-3 c = search needs
+
+same-length-4 : tie.Need-same-length-4
+same-length-4 c = search needs
+
+returns-2 : tie.Need-returns-2
+returns-2 c =
+    let s = c .before .before .before .before .before .before .before .before .before .before .before .before .before .before .before .before in
+    let f = c .before .before .before .before .before .before .before .before .before .before .fraction-of in
+    let r = c .before .before .before .before .before .before .negative-cycle in
+    better (now (s .args .from)) (now (s .args .to)) (now (s .args .cost)) (now (s .args .reward)) (s .args .nodes) _ _ (s .pre .0) (now (s .args .hand)) (s .args .k) (s .pre .1) (f .result .p) (f .result .q) (f .ensures) (now (s .args .potential)) (r .last .1 .1 .1 .1 .1 .1 .0) (r .last .1 .1 .1 .1 .1 .1 .1 .0) (s .pre .0 .formed .potential-room) (r .result) (found-is (c .before .before .before .before .before .before)) (c .before .found .given .0 .0) (r .kept .1 .1 .1 .1 .1 .1 .1 .0) (c .before .found .given .1)
+
+same-length-5 : tie.Need-same-length-5
+same-length-5 c = search needs
+
+same-length-6 : tie.Need-same-length-6
+same-length-6 c = search needs
+
+returns-3 : tie.Need-returns-3
+returns-3 c =
+    let s = c .before .before .before .before .before .before .before .before .before .before .before .before .before .before .before in
+    let f = c .before .before .before .before .before .before .before .before .before .fraction-of in
+    let r = c .before .before .before .before .before .negative-cycle in
+    again-settled (now (s .args .from)) (now (s .args .to)) (now (s .args .cost)) (now (s .args .reward)) (s .args .nodes) (now (s .args .potential))
+    (r .last .1 .1 .1 .1 .1 .1 .0) (r .last .1 .1 .1 .1 .1 .1 .1 .0) (f .result .p) (f .result .q) (s .args .k) (fits-p (c .before .before .before .before .before .before .before .before .before))
+    (done (now (s .args .from)) (now (s .args .to)) (now (s .args .cost)) (now (s .args .reward)) (s .args .nodes) _ _ (s .pre .0) (now (s .args .hand)) (s .args .k) (s .pre .1) (f .result .p) (f .result .q) (f .ensures) (now (s .args .potential)) (r .last .1 .1 .1 .1 .1 .1 .0) (r .last .1 .1 .1 .1 .1 .1 .1 .0) (s .pre .0 .formed .potential-room) (r .result) (found-is (c .before .before .before .before .before)) (c .enum-told2 .given .1))
+
+pub search-below-spec : {M : Type 1} → statement M
+search-below-spec =
+    tie.close
+    (tie.spec
+    fraction-of-requires
+    cast-t17
+    sub-t18
+    negative-cycle-requires
+    enum-told
+    enum-known-found
+    enum-told-2
+    same-length
+    same-length-2
+    returns
+    same-length-3
+    same-length-4
+    returns-2
+    same-length-5
+    same-length-6
+    returns-3)

@@ -1,0 +1,85 @@
+-- Question 13, and then what follows it.
+use mathlib.Core.Path.{refl}
+use Prim.Native.Nat.{ℕ}
+use borrow.Author.Needs.{needs}
+use native.Mathlib.Omega.{arith}
+use denote.Ref.{now}
+use lib.IntN.{pos}
+use lib.ListN.{replicate}
+use Rattle.ratio.proofs.Searches.{acyclic}
+use Rattle.ratio.proofs.VerdictLaws.{room, no-graph, found, none, first-hand}
+use Rattle.ratio.proofs.least_ratio.Statement.{statement}
+use Rattle.ratio.proofs.least_ratio.Tie as tie
+
+returns : tie.Need-returns
+returns c = ((λ w. omega (arith, w .potential-room)), record { potentials = refl; cycles = refl })
+
+returns-2 : tie.Need-returns-2
+returns-2 c = ((λ w. omega (arith, w .cycle-room)), record { potentials = refl; cycles = refl })
+
+slice-aggregate-negative-cycle : tie.Need-slice-aggregate-negative-cycle
+slice-aggregate-negative-cycle c = search needs
+
+slice-aggregate-negative-cycle-2 : tie.Need-slice-aggregate-negative-cycle-2
+slice-aggregate-negative-cycle-2 c = search needs
+
+negative-cycle-requires : tie.Need-negative-cycle-requires
+negative-cycle-requires c κs = search needs
+
+enum-told : tie.Need-enum-told
+enum-told c = search needs
+
+enum-told-2 : tie.Need-enum-told-2
+enum-told-2 c = search needs
+
+enum-known-found : tie.Need-enum-known-found
+enum-known-found c = search needs
+
+slice-aggregate-beyond : tie.Need-slice-aggregate-beyond
+slice-aggregate-beyond c = search needs
+
+beyond-requires : tie.Need-beyond-requires
+beyond-requires c κs =
+    let r = c .before .before .before .before .before .before .before .before .negative-cycle in
+    let g = found (now (c .before .before .before .before .before .before .before .before .before .before .before .before .before .before .before .before .before .args .from)) (now (c .before .before .before .before .before .before .before .before .before .before .before .before .before .before .before .before .before .args .to)) (now (c .before .before .before .before .before .before .before .before .before .before .before .before .before .before .before .before .before .args .cost)) (now (c .before .before .before .before .before .before .before .before .before .before .before .before .before .before .before .before .before .args .reward)) (c .before .before .before .before .before .before .before .before .before .before .before .before .before .before .before .before .before .args .nodes) 0 (omega arith) (replicate 2048 (pos 0)) (r .last .1 .1 .1 .1 .1 .1 .0) (replicate 2048 0) (r .last .1 .1 .1 .1 .1 .1 .1 .0) (r .result) (r .ensures) (c .before .before .before .before .found .given .0 .0) (c .before .before .before .before .found .given .1) in
+    (record { graph = g .0; potential-room = omega arith; cycle-room = omega arith }, first-hand (now (c .before .before .before .before .before .before .before .before .before .before .before .before .before .before .before .before .before .args .from)) (now (c .before .before .before .before .before .before .before .before .before .before .before .before .before .before .before .before .before .args .to)) (now (c .before .before .before .before .before .before .before .before .before .before .before .before .before .before .before .before .before .args .cost)) (now (c .before .before .before .before .before .before .before .before .before .before .before .before .before .before .before .before .before .args .reward)) (c .before .before .before .before .before .before .before .before .before .before .before .before .before .before .before .before .before .args .nodes) (replicate 2048 (pos 0)) (r .last .1 .1 .1 .1 .1 .1 .0) (replicate 2048 0) (r .last .1 .1 .1 .1 .1 .1 .1 .0) (c .before .before .before .before .found .given .0 .0) (r .kept .1 .1 .1 .1 .1 .1 .1 .0) (room {A = ℕ} 0 (g .0 .nodes)) (g .1))
+
+returns-3 : tie.Need-returns-3
+returns-3 c =
+    let r = c .before .before .before .before .negative-cycle in
+    ((λ w. no-graph (now (c .before .before .before .before .before .before .before .before .before .before .before .before .before .args .from)) (now (c .before .before .before .before .before .before .before .before .before .before .before .before .before .args .to)) (now (c .before .before .before .before .before .before .before .before .before .before .before .before .before .args .cost)) (now (c .before .before .before .before .before .before .before .before .before .before .before .before .before .args .reward)) (c .before .before .before .before .before .before .before .before .before .before .before .before .before .args .nodes) 0 (omega arith) (replicate 2048 (pos 0)) (r .last .1 .1 .1 .1 .1 .1 .0) (replicate 2048 0) (r .last .1 .1 .1 .1 .1 .1 .1 .0) (r .result) (r .ensures) (room (pos 0) (w .graph .nodes)) (room {A = ℕ} 0 (w .graph .nodes)) (c .enum-told .given .1) (w .graph)), record { potentials = refl; cycles = refl })
+
+returns-4 : tie.Need-returns-4
+returns-4 c =
+    let r = c .before .before .before .before .negative-cycle in
+    let g = none (now (c .before .before .before .before .before .before .before .before .before .before .before .before .before .args .from)) (now (c .before .before .before .before .before .before .before .before .before .before .before .before .before .args .to)) (now (c .before .before .before .before .before .before .before .before .before .before .before .before .before .args .cost)) (now (c .before .before .before .before .before .before .before .before .before .before .before .before .before .args .reward)) (c .before .before .before .before .before .before .before .before .before .before .before .before .before .args .nodes) 0 (omega arith) (replicate 2048 (pos 0)) (r .last .1 .1 .1 .1 .1 .1 .0) (replicate 2048 0) (r .last .1 .1 .1 .1 .1 .1 .1 .0) (r .result) (r .ensures) (c .enum-told2 .given .1) in
+    (record { graph = g .0; potential-room = omega arith; cycle-room = omega arith }, acyclic (now (c .before .before .before .before .before .before .before .before .before .before .before .before .before .args .from)) (now (c .before .before .before .before .before .before .before .before .before .before .before .before .before .args .to)) _ (now (c .before .before .before .before .before .before .before .before .before .before .before .before .before .args .cost)) (now (c .before .before .before .before .before .before .before .before .before .before .before .before .before .args .reward)) (g .1 .none), record { potentials = refl; cycles = refl })
+
+same-length : tie.Need-same-length
+same-length c = c .before .before .before .before .beyond .kept .1 .1 .1 .1 .1 .0
+
+same-length-2 : tie.Need-same-length-2
+same-length-2 c = c .before .before .before .before .beyond .kept .1 .1 .1 .1 .1 .1 .0
+
+returns-5 : tie.Need-returns-5
+returns-5 c = c .before .before .before .before .beyond .ensures
+
+pub least-ratio-spec : {M : Type 1} → statement M
+least-ratio-spec =
+    tie.close
+    (tie.spec
+    returns
+    returns-2
+    slice-aggregate-negative-cycle
+    slice-aggregate-negative-cycle-2
+    negative-cycle-requires
+    enum-told
+    enum-told-2
+    enum-known-found
+    slice-aggregate-beyond
+    beyond-requires
+    returns-3
+    returns-4
+    same-length
+    same-length-2
+    returns-5)

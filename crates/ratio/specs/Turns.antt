@@ -1,0 +1,63 @@
+-- What the private functions promise each other: the ratio of the cycle in hand, and a turn of the loop.
+use mathlib.Core.Path.{_≡_}
+use mathlib.Core.List.{List}
+use Prim.Native.Nat.{ℕ, _≤_, _<_}
+use lib.ListN.{length, take, drop}
+use lib.IntN.{ℤ, pos, negℤ, natAbs, _*ℤ_}
+use Rattle.integers.specs.Lowest.{Lowest}
+use lib.Signed.{_<ℤ_}
+use Rattle.walks.specs.Walk.{at, atℤ}
+use Rattle.walks.specs.Weight.{weightOf, sum, total, NoneNegative, Potential}
+use Rattle.ratio.specs.Answer.{WellFormed, SimpleCycle, EachEarns, RatioOf}
+use Rattle.ratio.specs.declared.improve.Turn.{Turn}
+use Rattle.ratio.specs.declared.improve.Turn.the-variants.{Better, Done}
+
+-- p / q is cost / reward in lowest terms
+pub record Reduced (cost : ℤ) (reward : ℕ) (p : ℤ) (q : ℕ) : Type 0 where
+  pub lowest : Lowest p q
+  pub exact : pos q *ℤ cost ≡ p *ℤ pos reward
+  pub p-small : natAbs p ≤ natAbs cost
+  pub q-small : q ≤ reward
+
+-- the first k arcs can be summed up, and earn
+pub record Summed (cost : List ℤ) (reward arcs : List ℕ) (k : ℕ) : Type 0 where
+  pub room : k ≤ length arcs
+  pub short : k ≤ 2048
+  pub costs : (i : ℕ) → i < k → at arcs i < length cost
+  pub rewards : (i : ℕ) → i < k → at arcs i < length reward
+  pub cost-small : natAbs (sum (atℤ cost) (take k arcs)) ≤ 20480000
+  pub earns : 0 < total (at reward) (take k arcs)
+
+-- the arguments of a turn, where question 14 is answered yes
+pub record Ready (F T : List ℕ) (cost : List ℤ) (reward : List ℕ) (n potentials arcs : ℕ) : Type 0 where
+  pub formed : WellFormed F T cost reward n potentials arcs
+  pub earns : EachEarns F T (length F) reward
+
+-- the cycle in hand: the first k entries
+pub record InHand (F T : List ℕ) (n : ℕ) (hand : List ℕ) (k : ℕ) : Type 0 where
+  pub short : k ≤ n
+  pub room : n ≤ length hand
+  pub cycle : SimpleCycle F T (length F) (take k hand)
+
+-- the ratio of the cycle c is below that of d: its cost times d's reward is below d's cost times its reward
+abbrev pub Cheaper : List ℤ → List ℕ → List ℕ → List ℕ → Type 0
+Cheaper cost reward c d = (sum (atℤ cost) c *ℤ pos (total (at reward) d)) <ℤ (sum (atℤ cost) d *ℤ pos (total (at reward) c))
+
+-- the potentials at the ratio p / q of the cycle in hand are written, and there is no cycle below it
+pub record Settled (F T : List ℕ) (cost : List ℤ) (reward : List ℕ) (n : ℕ) (potential potential' : List ℤ) (hand : List ℕ) (p : ℤ) (q k : ℕ) : Type 0 where
+  pub in-hand : InHand F T n hand k
+  pub ratio : RatioOf cost reward (take k hand) p q
+  pub p-small : natAbs p ≤ 20480000
+  pub none-below : NoneNegative F T (length F) (weightOf (pos q) (negℤ p) (pos 0) cost reward)
+  pub potentials : (v : ℕ) → v < n → Potential F T (length F) (weightOf (pos q) (negℤ p) (pos 0) cost reward) v (atℤ potential' v)
+  pub rest : drop n potential' ≡ drop n potential
+
+-- a cheaper cycle is in hand, and no potential is written
+pub record Improved (F T : List ℕ) (cost : List ℤ) (reward : List ℕ) (n k j : ℕ) (potential potential' : List ℤ) (hand hand' : List ℕ) : Type 0 where
+  pub in-hand : InHand F T n hand' j
+  pub cheaper : Cheaper cost reward (take j hand') (take k hand)
+  pub kept : potential' ≡ potential
+
+abbrev pub Turned : List ℕ → List ℕ → List ℤ → List ℕ → ℕ → ℕ → List ℤ → List ℤ → List ℕ → List ℕ → Turn → Type 0
+Turned F T cost reward n k potential potential' hand hand' (Better j) = Improved F T cost reward n k j potential potential' hand hand'
+Turned F T cost reward n k potential potential' hand hand' (Done p q) = Settled F T cost reward n potential potential' hand' p q k

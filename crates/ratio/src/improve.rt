@@ -1,0 +1,130 @@
+// From a first cycle to one of the least ratio.
+ghost use lib.ListN.{length};
+ghost use Rattle.ratio.specs.Answer.{WellFormed, Judged};
+ghost use Rattle.ratio.specs.Turns.{Ready, InHand, Turned, Settled};
+use crate::Verdict;
+use graph::Answer;
+use graph::Coefficients;
+
+// A cycle of a smaller ratio is in hand now, by the number of its arcs; or there is none, and the ratio is p / q.
+enum Turn {
+    Better(usize),
+    Done(i64, u64),
+}
+
+// The least ratio p / q, and the number of arcs of the cycle in hand, which has it.
+struct Least {
+    p: i64,
+    q: u64,
+    arcs: usize,
+}
+
+// One search for a cycle below the ratio of the one in hand. Where there is none, the potentials are written.
+fn search_below(
+    from: &[u16],
+    to: &[u16],
+    cost: &[i16],
+    reward: &[u16],
+    nodes: usize,
+    potential: &mut [i64],
+    hand: &mut [usize],
+    k: usize,
+) -> Turn
+    requires { ⌜ Ready (now from) (now to) (now cost) (now reward) nodes (length (now potential)) (length (now hand)) ⌝ }
+    requires { ⌜ InHand (now from) (now to) nodes (now hand) k ⌝ }
+    ensures { λ r. ⌜ Turned (now (from .entry)) (now (to .entry)) (now (cost .entry)) (now (reward .entry)) nodes k
+        (now (potential .entry)) (now (potential .exit)) (now (hand .entry)) (now (hand .exit)) r ⌝ }
+{
+    let f = crate::fraction::fraction_of(cost, reward, hand, k);
+    let p = f.p;
+    let q = f.q;
+    let below = Coefficients {
+        a: q as i64,
+        b: 0 - p,
+        c: 0,
+    };
+    let found = graph::negative_cycle(from, to, cost, reward, below, nodes, potential, hand);
+    match found {
+        Answer::Malformed => Turn::Done(p, q),
+        Answer::Cycle(j) => Turn::Better(j),
+        Answer::Potentials => Turn::Done(p, q),
+    }
+}
+
+// Turn by turn: the ratio falls, and fractions with bounded denominators cannot fall for ever.
+fn settle(
+    from: &[u16],
+    to: &[u16],
+    cost: &[i16],
+    reward: &[u16],
+    nodes: usize,
+    potential: &mut [i64],
+    hand: &mut [usize],
+    k: usize,
+) -> Least
+    requires { ⌜ Ready (now from) (now to) (now cost) (now reward) nodes (length (now potential)) (length (now hand)) ⌝ }
+    requires { ⌜ InHand (now from) (now to) nodes (now hand) k ⌝ }
+    ensures { λ r. ⌜ Settled (now (from .entry)) (now (to .entry)) (now (cost .entry)) (now (reward .entry)) nodes
+        (now (potential .entry)) (now (potential .exit)) (now (hand .exit)) (r .p) (r .q) (r .arcs) ⌝ }
+{
+    let mut arcs = k;
+    loop {
+        let t = search_below(from, to, cost, reward, nodes, potential, hand, arcs);
+        match t {
+            Turn::Better(j) => {
+                arcs = j;
+            }
+            Turn::Done(p, q) => {
+                return Least { p, q, arcs };
+            }
+        }
+    }
+}
+
+// Question 14, and where it is answered yes the least ratio: the first k arcs in hand are a cycle.
+pub(crate) fn beyond(
+    from: &[u16],
+    to: &[u16],
+    cost: &[i16],
+    reward: &[u16],
+    nodes: usize,
+    potential: &mut [i64],
+    cycle: &mut [usize],
+    hand: &mut [usize],
+    k: usize,
+) -> Verdict
+    requires { ⌜ WellFormed (now from) (now to) (now cost) (now reward) nodes (length (now potential)) (length (now cycle)) ⌝ }
+    requires { ⌜ InHand (now from) (now to) nodes (now hand) k ⌝ }
+    ensures { λ r. ⌜ Judged (now (from .entry)) (now (to .entry)) (now (cost .entry)) (now (reward .entry)) nodes
+        (now (potential .entry)) (now (potential .exit)) (now (cycle .entry)) (now (cycle .exit)) r ⌝ }
+{
+    let mut unused = [0i64; 2048];
+    let mut idle_arcs = [0usize; 2048];
+    let idle = Coefficients {
+        a: 0,
+        b: 2049,
+        c: -1,
+    };
+    let found = graph::negative_cycle(
+        from,
+        to,
+        cost,
+        reward,
+        idle,
+        nodes,
+        &mut unused,
+        &mut idle_arcs,
+    );
+    match found {
+        Answer::Malformed => Verdict::Malformed,
+        Answer::Cycle(_) => Verdict::NoReward,
+        Answer::Potentials => {
+            let least = settle(from, to, cost, reward, nodes, potential, hand, k);
+            let p = least.p;
+            let q = least.q;
+            let arcs = least.arcs;
+            crate::copy::arcs(hand, cycle, arcs);
+            Verdict::Ratio(p, q, arcs)
+        }
+    }
+}
