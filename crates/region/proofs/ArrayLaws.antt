@@ -16,6 +16,9 @@ use Rattle.automaton.proofs.Largest.{rank-length}
 use Rattle.nodes.specs.Numbers.{firstLayout, clocksFrom, bitsOf}
 use Rattle.region.specs.Arrays.{padded, packedClasses, closedEntry, risenClass}
 
+pub each-entry : {a b c x y z : ℕ} → a ≡ x → b ≡ y → c ≡ z → _≡_ {A = List ℕ} (a ∷ b ∷ c ∷ []) (x ∷ y ∷ z ∷ [])
+each-entry p q r = ap₂ _∷_ p (ap₂ _∷_ q (ap₂ _∷_ r refl))
+
 -- an array of three is its three entries
 pub three : (xs : List ℕ) → length xs ≡ 3 → padded xs ≡ xs
 three [] h = absurd (omega arith)
@@ -70,7 +73,7 @@ rank-padded xs h (suc t) = ap₂ oneMoreIf (occurs-padded t xs h) (rank-padded x
 
 pub close-padded : (xs : List ℕ) → length xs ≤ 3 → closeUp (padded xs) ≡ padded (closeUp xs)
 unfolding closeUp rank
-close-padded xs h = ap₂ _∷_ (at 0) (ap₂ _∷_ (at 1) (ap₂ _∷_ (at 2) refl))
+close-padded xs h = each-entry (at 0) (at 1) (at 2)
   where
     at : (i : ℕ) → rank (padded xs) (getD xs i 0) ≡ getD (map (rank xs) xs) i 0
     at i = rank-padded xs h (getD xs i 0) ∙ sym (List·getD-map (rank xs) xs i 0)

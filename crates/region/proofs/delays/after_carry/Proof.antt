@@ -1,9 +1,8 @@
 -- Clock by clock.
-use mathlib.Core.Path.{_≡_, refl, ap₂, _∙_}
-use mathlib.Core.List.{_∷_}
+use mathlib.Core.Path.{_≡_, _∙_}
 use borrow.Author.Needs.{needs}
 use lib.ListN.{length}
-use Rattle.region.proofs.ArrayLaws.{carry-three, class-three}
+use Rattle.region.proofs.ArrayLaws.{each-entry, carry-three, class-three}
 use Rattle.region.proofs.delays.after_carry.Statement.{statement}
 use Rattle.region.proofs.delays.after_carry.Tie as tie
 
@@ -61,8 +60,8 @@ returns c =
     λ i. record {
       location = c .before .before .before .before .before .before .before .before .before .before .before .before .before .before .before .before .args .node .location;
       region = record {
-        whole = (ap₂ _∷_ (c .before .before .before .before .before .before .before .before .before .before .before .before .carry-whole .ensures) (ap₂ _∷_ (c .before .before .before .before .before .before .before .before .before .carry-whole2 .ensures) (ap₂ _∷_ (c .before .before .before .before .before .before .carry-whole3 .ensures) refl)) ∙ carry-three (c .before .before .before .before .before .before .before .before .before .before .before .before .before .before .before .before .args .g) hs ks h k) i;
-        class = (ap₂ _∷_ (c .before .before .before .before .carry-class .ensures) (ap₂ _∷_ (c .before .before .carry-class2 .ensures) (ap₂ _∷_ (c .carry-class3 .ensures) refl)) ∙ class-three (c .before .before .before .before .before .before .before .before .before .before .before .before .before .before .before .before .args .g) ks k) i;
+        whole = (each-entry (c .before .before .before .before .before .before .before .before .before .before .before .before .carry-whole .ensures) (c .before .before .before .before .before .before .before .before .before .carry-whole2 .ensures) (c .before .before .before .before .before .before .carry-whole3 .ensures) ∙ carry-three (c .before .before .before .before .before .before .before .before .before .before .before .before .before .before .before .before .args .g) hs ks h k) i;
+        class = (each-entry (c .before .before .before .before .carry-class .ensures) (c .before .before .carry-class2 .ensures) (c .carry-class3 .ensures) ∙ class-three (c .before .before .before .before .before .before .before .before .before .before .before .before .before .before .before .before .args .g) ks k) i;
       };
       corner = c .before .before .before .before .before .before .before .before .before .before .before .before .before .before .before .before .args .node .corner;
     }

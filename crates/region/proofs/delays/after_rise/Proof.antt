@@ -1,7 +1,6 @@
 -- Clock by clock.
-use mathlib.Core.Path.{refl, ap₂}
-use mathlib.Core.List.{_∷_}
 use native.Mathlib.Numerals.{add-one}
+use Rattle.region.proofs.ArrayLaws.{each-entry}
 use borrow.Author.Needs.{needs}
 use Rattle.region.proofs.delays.after_rise.Statement.{statement}
 use Rattle.region.proofs.delays.after_rise.Tie as tie
@@ -32,7 +31,7 @@ returns c = λ i. record {
   location = c .before .before .before .before .before .before .before .before .before .args .node .location;
   region = record {
     whole = c .before .before .before .before .before .before .before .before .before .args .node .region .whole;
-    class = ap₂ _∷_ (c .before .before .before .before .before .risen-class .ensures) (ap₂ _∷_ (c .before .before .before .risen-class2 .ensures) (ap₂ _∷_ (c .before .risen-class3 .ensures) refl)) i;
+    class = each-entry (c .before .before .before .before .before .risen-class .ensures) (c .before .before .before .risen-class2 .ensures) (c .before .risen-class3 .ensures) i;
   };
   corner = add-one (c .before .before .before .before .before .before .before .before .before .args .node .corner) i;
 }
