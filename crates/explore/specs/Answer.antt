@@ -45,21 +45,21 @@ pub record Filled (before after : Buffers) (n m : ℕ) : Type 0 where
   pub codes : (e : ℕ) → e < m → at (after .code) e < 34
   pub rest : Rest before after n m
 
-module _ (step : ℕ → ℕ → Option (Priced ℕ)) (start : ℕ) where
-  -- an arc between two of n nodes is an allowed step
-  pub record IsStep (b : Buffers) (n e : ℕ) : Type 0 where
-    pub source : at (b .from) e < n
-    pub target : at (b .to) e < n
-    pub sound : step (at (b .node) (at (b .from) e)) (at (b .code) e)
-        ≡ some (record { to = at (b .node) (at (b .to) e); cost = atℤ (b .cost) e; reward = at (b .reward) e })
+-- the arc e between two of n nodes is an allowed step
+pub record IsStep (step : ℕ → ℕ → Option (Priced ℕ)) (b : Buffers) (n e : ℕ) : Type 0 where
+  pub source : at (b .from) e < n
+  pub target : at (b .to) e < n
+  pub sound : step (at (b .node) (at (b .from) e)) (at (b .code) e)
+      ≡ some (record { to = at (b .node) (at (b .to) e); cost = atℤ (b .cost) e; reward = at (b .reward) e })
 
+module _ (step : ℕ → ℕ → Option (Priced ℕ)) (start : ℕ) where
   -- 2,048 nodes and one more; the arcs are those found before that one
   pub record Stopped (before after : Buffers) : Type 0 where
     pub overfull : Overfull step start (after .node)
     pub first : at (after .node) 0 ≡ start
     pub arcs : ℕ
     pub filled : Filled before after 2048 arcs
-    pub steps : (e : ℕ) → e < arcs → IsStep after 2048 e
+    pub steps : (e : ℕ) → e < arcs → IsStep step after 2048 e
 
   abbrev pub Answered : Buffers → Buffers → Outcome → Type 0
   Answered before after Malformed = (LongEnough before → ⊥) × (after ≡ before)

@@ -1,29 +1,24 @@
+-- The tests in turn.
+use mathlib.Core.Path.{sym}
+use borrow.Author.Tests.{not-true, not-false}
 use borrow.Author.Needs.{needs}
 use Rattle.explore.proofs.long_enough.Statement.{statement}
 use Rattle.explore.proofs.long_enough.Tie as tie
-use Rattle.explore.proofs.long_enough.Reads as reads
-use Rattle.explore.proofs.long_enough.Lts as lts
-use Rattle.explore.proofs.each_at_least.Reads as each-at-least-reads
 
--- src/lib.rt:52:9
 each-at-least-requires : tie.Need-each-at-least-requires
 each-at-least-requires c κs = search needs
 
--- src/lib.rt:53:9
 returns : tie.Need-returns
-returns c = ?
+returns c = simp (sym (c .before .each-at-least .ensures), not-true (c .before .each-at-least .result) (c .if1 .taken))
 
--- src/lib.rt:55:9
 each-at-least-requires-2 : tie.Need-each-at-least-requires-2
 each-at-least-requires-2 c κs = search needs
 
--- src/lib.rt:56:9
 returns-2 : tie.Need-returns-2
-returns-2 c = ?
+returns-2 c = simp (sym (c .before .before .before .each-at-least .ensures), not-false (c .before .before .before .each-at-least .result) (c .before .before .if1 .left), sym (c .before .each-at-least2 .ensures), not-true (c .before .each-at-least2 .result) (c .if2 .taken))
 
--- src/lib.rt:39:1
 returns-3 : tie.Need-returns-3
-returns-3 c = ?
+returns-3 c = simp (sym (c .before .before .before .each-at-least .ensures), not-false (c .before .before .before .each-at-least .result) (c .before .before .if1 .left), sym (c .before .each-at-least2 .ensures), not-false (c .before .each-at-least2 .result) (c .if2 .left))
 
 pub long-enough-spec : {M : Type 1} → statement M
 long-enough-spec =
