@@ -7,7 +7,7 @@ use Prim.Native.Nat.{ℕ, zero, suc, _+_, _*_, _≤_, _<_}
 use native.Mathlib.Omega.{arith}
 use borrow.Author.Tests.{leb-true, le-leb}
 use lib.Dec.{leb}
-use lib.ListN.{length, replicate}
+use lib.ListN.{length, replicate, length-set}
 use Rattle.automaton.specs.Automaton.{Automaton}
 use Rattle.automaton.specs.Priced.{Priced}
 use Rattle.automaton.specs.Nodes.{startNode}
@@ -21,11 +21,11 @@ use Rattle.explore.specs.Turns.{Turned, Skipped, Old, New, Over}
 use Rattle.explore.specs.Answer.{Stopped}
 use Rattle.explore.specs.declared.turns.Turn.{Turn}
 use Rattle.explore.specs.declared.turns.Turn.the-variants.{Full, Go}
-use Rattle.explore.proofs.SearchLaws.{Searched, skip, stop}
+use Rattle.explore.proofs.SearchLaws.{Searched, seeded, skip, stop}
 use Rattle.explore.proofs.TurnLaws.{led, allowed, refused, known-turn, new-turn}
 
 -- ---- a turn
-module _ (step : ℕ → ℕ → Option (Priced ℕ)) (start : ℕ) (b₀ b b' : Buffers) (n m i k t : ℕ) (s : Stepped) (g : Searched step start b₀ b n m t)
+module _ (step : ℕ → ℕ → Option (Priced ℕ)) (start : ℕ) (b₀ b b' : Buffers) (n m i k t : ℕ) (s : Stepped) (g : Searched step start (seeded b₀) b n m t)
     (long : LongEnough b) (hi : i < n) (hk : k < 34) (turn : t ≡ 34 * i + k) (ht : t < 34 * n) (told : s ≡ answered (step (at (b .node) i) k)) where
   leads : s .refusal ≡ 0 → step (at (b .node) i) k ≡ some (led s)
   leads e = allowed (step (at (b .node) i) k) s told e
@@ -36,12 +36,12 @@ module _ (step : ℕ → ℕ → Option (Priced ℕ)) (start : ℕ) (b₀ b b' :
       subst (λ (c : Buffers). Stopped step start b₀ c) (sym (o .same))
       (stop step start b₀ b n m i k t (led s) g hi (o .full) (leads (o .allowed)) (o .fresh))
 
-  pub went : (r : Turn) (n' m' : ℕ) → r ≡ Go n' m' → Turned b b' n m i k s r → Searched step start b₀ b' n' m' (t + 1)
+  pub went : (r : Turn) (n' m' : ℕ) → r ≡ Go n' m' → Turned b b' n m i k s r → Searched step start (seeded b₀) b' n' m' (t + 1)
   went r n' m' p w = ⊎-elim
-      (λ q. rw (q .nodes, q .arcs, q .same) (skip step start b₀ b n m i k t g hk turn ht (refused (step (at (b .node) i) k) s told (q .refused))))
+      (λ q. rw (q .nodes, q .arcs, q .same) (skip step start (seeded b₀) b n m i k t g hk turn ht (refused (step (at (b .node) i) k) s told (q .refused))))
       (⊎-elim
-      (λ q. rw (q .nodes, q .arcs) (known-turn step start b₀ b b' n m i k t s g long hi hk turn (leads (q .allowed)) (q .target) ht (q .known) (q .pushed)))
-      (λ q. rw (q .nodes, q .arcs) (new-turn step start b₀ b b' n m i k t s g long hi hk turn (leads (q .allowed)) (q .added) (q .pushed) ht)))
+      (λ q. rw (q .nodes, q .arcs) (known-turn step start (seeded b₀) b b' n m i k t s g long hi hk turn (leads (q .allowed)) (q .target) ht (q .known) (q .pushed)))
+      (λ q. rw (q .nodes, q .arcs) (new-turn step start (seeded b₀) b b' n m i k t s g long hi hk turn (leads (q .allowed)) (q .added) (q .pushed) ht)))
       (subst (λ (r : Turn). Turned b b' n m i k s r) p w)
 
 -- ---- the start
@@ -112,11 +112,11 @@ pub record Same (before after : Buffers) : Type 0 where
   pub cost : length (after .cost) ≡ length (before .cost)
   pub reward : length (after .reward) ≡ length (before .reward)
 
-pub long-kept : (before after : Buffers) → Same before after → LongEnough before → LongEnough after
+pub long-kept : (before after : Buffers) → Same (seeded before) after → LongEnough before → LongEnough after
 long-kept before after s r = record {
-  node = omega (arith, s .nodes, r .node);
-  sorted = omega (arith, s .sorted, r .sorted);
-  order = omega (arith, s .order, r .order);
+  node = omega (arith, s .nodes, r .node, length-set (before .node) 0 0);
+  sorted = omega (arith, s .sorted, r .sorted, length-set (before .sorted) 0 0);
+  order = omega (arith, s .order, r .order, length-set (before .order) 0 0);
   tree = omega (arith, s .tree, r .tree);
   from = omega (arith, s .from, r .from);
   to = omega (arith, s .to, r .to);

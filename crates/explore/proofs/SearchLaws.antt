@@ -40,6 +40,25 @@ beyond l l' l₀ n w e = w ∙ later l l₀ n e
 pub set-rest : {A : Type 0} (l l' : List A) (n : ℕ) (x : A) → l' ≡ set l n x → drop (n + 1) l' ≡ drop (n + 1) l
 set-rest {A} l l' n x w = ap (λ (l : List A). drop (n + 1) l) w ∙ drop-set-lt (n + 1) l n x (omega arith)
 
+-- the start is written, node 0 with the number 0
+abbrev pub seeded : Buffers → Buffers
+seeded b = buffers (set (b .node) 0 0) (set (b .sorted) 0 0) (set (b .order) 0 0) (b .tree) (b .from) (b .to) (b .code) (b .cost) (b .reward)
+
+-- what stands beyond the nodes found is what stood there before that
+pub rest-seeded : (b b' : Buffers) (n m : ℕ) → 0 < n → Rest (seeded b) b' n m → Rest b b' n m
+rest-seeded b b' n m h r = record {
+  node = r .node ∙ drop-set-lt n (b .node) 0 0 h;
+  sorted = r .sorted ∙ drop-set-lt n (b .sorted) 0 0 h;
+  order = r .order ∙ drop-set-lt n (b .order) 0 0 h;
+  tree = r .tree;
+  root = r .root;
+  from = r .from;
+  to = r .to;
+  code = r .code;
+  cost = r .cost;
+  reward = r .reward;
+}
+
 module _ (step : ℕ → ℕ → Option (Priced ℕ)) (start : ℕ) where
   -- n nodes and m arcs are found, and t turns taken
   pub record Searched (before after : Buffers) (n m t : ℕ) : Type 0 where
@@ -59,45 +78,44 @@ module _ (step : ℕ → ℕ → Option (Priced ℕ)) (start : ℕ) where
     pub index : Index (after .node) (after .sorted) (after .order) n
     pub rest : Rest before after n m
 
-  pub begin : (b : Buffers) → LongEnough b → start ≡ 0
-      → Searched b (buffers (set (b .node) 0 0) (set (b .sorted) 0 0) (set (b .order) 0 0) (b .tree) (b .from) (b .to) (b .code) (b .cost) (b .reward)) 1 0 0
+  pub begin : (b : Buffers) → LongEnough b → start ≡ 0 → Searched (seeded b) (seeded b) 1 0 0
   begin b r z =
       let p : at (set (b .node) 0 0) 0 ≡ start = getD-set-same (b .node) 0 0 0 (omega (arith, r .node)) ∙ sym z in record {
-    some-node = omega arith;
-    few-nodes = omega arith;
-    few-arcs = omega arith;
-    few-turns = omega arith;
-    first = p;
-    distinct = λ a b ha hb _. omega arith;
-    reachable = λ a h. let e : 0 ≡ a = omega arith in
-        subst (λ (i : ℕ). Reachable step start (at (set (b .node) 0 0) i)) e (subst (λ (x : ℕ). Reachable step start x) (sym p) (reach-start step start));
-    steps = λ e h. absurd (omega arith);
-    complete = λ a c v hc h. absurd (omega arith);
-    passed = λ e h. absurd (omega arith);
-    codes = λ e h. absurd (omega arith);
-    by-source = λ d e h l. absurd (omega arith);
-    tree = record {
-      arc = λ v h p. absurd (omega arith);
-      ends = λ v h p. absurd (omega arith);
-      earlier = λ v h p. absurd (omega arith);
-      first = λ e h. absurd (omega arith);
-      rising = λ u v h l p. absurd (omega arith);
-    };
-    index = one (set (b .node) 0 0) (set (b .sorted) 0 0) (set (b .order) 0 0)
-        (getD-set-same (b .sorted) 0 0 0 (omega (arith, r .sorted)) ∙ sym (p ∙ z)) (getD-set-same (b .order) 0 0 0 (omega (arith, r .order)));
-    rest = record {
-      node = drop-set-lt 1 (b .node) 0 0 (omega arith);
-      sorted = drop-set-lt 1 (b .sorted) 0 0 (omega arith);
-      order = drop-set-lt 1 (b .order) 0 0 (omega arith);
-      tree = refl;
-      root = refl;
-      from = refl;
-      to = refl;
-      code = refl;
-      cost = refl;
-      reward = refl;
-    };
-  }
+        some-node = omega arith;
+        few-nodes = omega arith;
+        few-arcs = omega arith;
+        few-turns = omega arith;
+        first = p;
+        distinct = λ a b ha hb _. omega arith;
+        reachable = λ a h. (let e : 0 ≡ a = omega arith in
+            subst (λ (i : ℕ). Reachable step start (at (set (b .node) 0 0) i)) e (subst (λ (x : ℕ). Reachable step start x) (sym p) (reach-start step start)));
+        steps = λ e h. absurd (omega arith);
+        complete = λ a c v hc h. absurd (omega arith);
+        passed = λ e h. absurd (omega arith);
+        codes = λ e h. absurd (omega arith);
+        by-source = λ d e h l. absurd (omega arith);
+        tree = record {
+          arc = λ v h p. absurd (omega arith);
+          ends = λ v h p. absurd (omega arith);
+          earlier = λ v h p. absurd (omega arith);
+          first = λ e h. absurd (omega arith);
+          rising = λ u v h l p. absurd (omega arith);
+        };
+        index = one (set (b .node) 0 0) (set (b .sorted) 0 0) (set (b .order) 0 0)
+            (getD-set-same (b .sorted) 0 0 0 (omega (arith, r .sorted)) ∙ sym (p ∙ z)) (getD-set-same (b .order) 0 0 0 (omega (arith, r .order)));
+        rest = record {
+          node = refl;
+          sorted = refl;
+          order = refl;
+          tree = refl;
+          root = refl;
+          from = refl;
+          to = refl;
+          code = refl;
+          cost = refl;
+          reward = refl;
+        };
+      }
 
   -- the turns below t, and turn t
   pub next-turn : (a c i k t : ℕ) → c < 34 → k < 34 → t ≡ 34 * i + k → 34 * a + c < t + 1 → (34 * a + c < t) ⊎ ((a ≡ i) × (c ≡ k))
@@ -143,18 +161,18 @@ module _ (step : ℕ → ℕ → Option (Priced ℕ)) (start : ℕ) where
     complete = λ a code v l q. (let c = few (at (b .node) a) code v q in g .complete a code v c (omega arith) q);
   }
 
-  pub filled : (b₀ b : Buffers) (n m t : ℕ) → Searched b₀ b n m t → Filled b₀ b n m
+  pub filled : (b₀ b : Buffers) (n m t : ℕ) → Searched (seeded b₀) b n m t → Filled b₀ b n m
   filled b₀ b n m t g = record {
     index = g .index;
     tree = g .tree;
     by-source = g .by-source;
     few-arcs = omega (arith, g .few-arcs, g .few-turns);
     codes = g .codes;
-    rest = g .rest;
+    rest = rest-seeded b₀ b n m (g .some-node) (g .rest);
   }
 
   -- a step to one node more than there is room for
-  pub stop : (b₀ b : Buffers) (n m i k t : ℕ) (v : Priced ℕ) → Searched b₀ b n m t → i < n → n ≡ 2048 → step (at (b .node) i) k ≡ some v
+  pub stop : (b₀ b : Buffers) (n m i k t : ℕ) (v : Priced ℕ) → Searched (seeded b₀) b n m t → i < n → n ≡ 2048 → step (at (b .node) i) k ≡ some v
       → ((a : ℕ) → a < n → at (b .node) a ≡ v .to → ⊥) → Stopped step start b₀ b
   stop b₀ b n m i k t v g hi z leads fresh = record {
     overfull = record {

@@ -67,14 +67,28 @@ module _ (step : ℕ → ℕ → Option (Priced ℕ)) (start : ℕ) (b₀ b b' :
         (λ e h. let q = g .steps e h in record {
           source = omega (arith, from-low e h, q .source);
           target = omega (arith, to-low e h, q .target);
-          sound = rw (from-low e h, to-low e h, code-low e h, kept (pos 0) (b .cost) (b' .cost) m (s .cost) (w .cost) e h,
-              kept 0 (b .reward) (b' .reward) m (s .reward) (w .reward) e h, keep (at (b .from) e) (q .source), keep (at (b .to) e) (q .target)) (q .sound);
+          sound = rw (
+            from-low e h,
+            to-low e h,
+            code-low e h,
+            kept (pos 0) (b .cost) (b' .cost) m (s .cost) (w .cost) e h,
+            kept 0 (b .reward) (b' .reward) m (s .reward) (w .reward) e h,
+            keep (at (b .from) e) (q .source),
+            keep (at (b .to) e) (q .target),
+          ) (q .sound);
         })
         record {
           source = omega (arith, from-m);
           target = omega (arith, to-m);
-          sound = rw (from-m, to-m, code-m, there (pos 0) (b .cost) (b' .cost) m (s .cost) (w .cost) (omega (arith, under, long .cost)),
-              there 0 (b .reward) (b' .reward) m (s .reward) (w .reward) (omega (arith, under, long .reward)), keep i hi, is) leads;
+          sound = rw (
+            from-m,
+            to-m,
+            code-m,
+            there (pos 0) (b .cost) (b' .cost) m (s .cost) (w .cost) (omega (arith, under, long .cost)),
+            there 0 (b .reward) (b' .reward) m (s .reward) (w .reward) (omega (arith, under, long .reward)),
+            keep i hi,
+            is,
+          ) leads;
         }
 
     more : (a c : ℕ) → ArcOf (found b n m) a c → ArcOf (found b' n' (m + 1)) a c
@@ -95,8 +109,12 @@ module _ (step : ℕ → ℕ → Option (Priced ℕ)) (start : ℕ) (b₀ b b' :
           (λ l. omega (arith, ap (at (b' .from)) (keep-tree v l), from-low (at (b .tree) v) (g .tree .arc v l p), g .tree .earlier v l p))
           (λ q. omega (arith, ap (at (b' .from)) (q .1 .1), from-m, q .0)) (olds v h);
       first = up-to (λ e. 0 < at (b' .to) e → at (b' .tree) (at (b' .to) e) ≤ e) m
-          (λ e h p. omega (arith, ap (at (b' .tree)) (to-low e h), keep-tree (at (b .to) e) (g .steps e h .target),
-          g .tree .first e h (omega (arith, to-low e h))))
+          (λ e h p. omega (
+            arith,
+            ap (at (b' .tree)) (to-low e h),
+            keep-tree (at (b .to) e) (g .steps e h .target),
+            g .tree .first e h (omega (arith, to-low e h)),
+          ))
           (λ p. ⊎-elim (λ l. omega (arith, ap (at (b' .tree)) to-m, keep-tree j l, g .tree .arc j l (omega (arith, to-m))))
           (λ q. omega (arith, ap (at (b' .tree)) to-m, q .1 .1)) (olds j hj));
       rising = λ u v h l p. ⊎-elim

@@ -41,9 +41,16 @@ returns-2 : tie.Need-returns-2
 returns-2 c = let s = c .before .before .before .before .before .before .before .before .before .before .before .before .before .before .before .before .before .before .before .before .before .before .before .before in over _ _ _ _ _ _ _ _ _ _ _ _ (s .pre .1 .1 .0) _ _ _ _ _ _ refl (c .before .before .before .before .before .before .before .before .before .before .before .before .before .before .if1 .left) (c .before .before .before .before .before .before .before .before .before .enter .ensures) (c .if2 .taken)
 
 join-requires : tie.Need-join-requires
-join-requires c κs = let s = c .before .before .before .before .before .before .before .before .before .before .before .before .before .before .before .before .before .before .before .before .before .before .before .before .before .before .before in let l = s .pre .0 in
-    (omega (arith, l .from, s .pre .1 .1 .1 .0), (omega (arith, l .to, s .pre .1 .1 .1 .0), (omega (arith, l .code, s .pre .1 .1 .1 .0),
-    (omega (arith, s .pre .1 .1 .0, s .pre .1 .1 .1 .1 .0), (omega (arith, small _ _ _ _ _ _ _ _ _ _ _ _ (s .pre .1 .1 .0) (c .before .before .before .before .before .before .before .before .before .before .before .before .enter .ensures)), omega (arith, s .pre .1 .1 .1 .1 .1))))))
+join-requires c κs = let s = c .before .before .before .before .before .before .before .before .before .before .before .before .before .before .before .before .before .before .before .before .before .before .before .before .before .before .before in let l = s .pre .0 in (
+  omega (arith, l .from, s .pre .1 .1 .1 .0),
+  (
+    omega (arith, l .to, s .pre .1 .1 .1 .0),
+    (
+      omega (arith, l .code, s .pre .1 .1 .1 .0),
+      (omega (arith, s .pre .1 .1 .0, s .pre .1 .1 .1 .1 .0), (omega (arith, small _ _ _ _ _ _ _ _ _ _ _ _ (s .pre .1 .1 .0) (c .before .before .before .before .before .before .before .before .before .before .before .before .enter .ensures)), omega (arith, s .pre .1 .1 .1 .1 .1))),
+    ),
+  ),
+)
 
 price-requires : tie.Need-price-requires
 price-requires c κs = let s = c .before .before .before .before .before .before .before .before .before .before .before .before .before .before .before .before .before .before .before .before .before .before .before .before .before .before .before .before .before .before .before .before .before .before .before .before .before in let l = s .pre .0 in (omega (arith, l .cost, s .pre .1 .1 .1 .0), omega (arith, l .reward, s .pre .1 .1 .1 .0))
@@ -83,12 +90,12 @@ same-length-13 c = search needs
 
 returns-3 : tie.Need-returns-3
 returns-3 c = let s = c .before .before .before .before .before .before .before .before .before .before .before .before .before .before .before .before .before .before .before .before .before .before .before .before .before .before .before .before .before .before .before .before .before .before .before .before .before .before .before .before .before .before in let p = c .before .before .before .before .before .before .before .before .before .before .before .before .before .before in let w = c .before .before .before .before in inr (inr record {
-      allowed = c .before .before .before .before .before .before .before .before .before .before .before .before .before .before .before .before .before .before .before .before .before .before .before .before .before .before .before .before .before .before .before .before .if1 .left;
-      added = new _ _ _ _ _ _ _ _ _ _ _ _ (s .pre .1 .1 .0) (c .before .before .before .before .before .before .before .before .before .before .before .before .before .before .before .before .before .before .before .before .before .before .before .before .before .before .before .enter .ensures) (c .before .before .before .before .before .before .before .before .before .before .before .before .before .before .before .before .before .before .if2 .left) (c .if3 .taken);
-      pushed = record { from = p .join .ensures .0; to = p .join .ensures .1 .0 ∙ ap (λ (z : ℕ). set (now (s .args .to)) (s .args .m) z) (c .if3 .taken); code = p .join .ensures .1 .1; cost = w .price .ensures .0 ∙ ap (λ (z : ℤ). set (now (s .args .cost)) (s .args .m) z) (cost-is (c .before .before .before .before .before)); reward = w .price .ensures .1 };
-      nodes = refl;
-      arcs = refl;
-    })
+  allowed = c .before .before .before .before .before .before .before .before .before .before .before .before .before .before .before .before .before .before .before .before .before .before .before .before .before .before .before .before .before .before .before .before .if1 .left;
+  added = new _ _ _ _ _ _ _ _ _ _ _ _ (s .pre .1 .1 .0) (c .before .before .before .before .before .before .before .before .before .before .before .before .before .before .before .before .before .before .before .before .before .before .before .before .before .before .before .enter .ensures) (c .before .before .before .before .before .before .before .before .before .before .before .before .before .before .before .before .before .before .if2 .left) (c .if3 .taken);
+  pushed = record { from = p .join .ensures .0; to = p .join .ensures .1 .0 ∙ ap (λ (z : ℕ). set (now (s .args .to)) (s .args .m) z) (c .if3 .taken); code = p .join .ensures .1 .1; cost = w .price .ensures .0 ∙ ap (λ (z : ℤ). set (now (s .args .cost)) (s .args .m) z) (cost-is (c .before .before .before .before .before)); reward = w .price .ensures .1 };
+  nodes = refl;
+  arcs = refl;
+})
 
 add-t38 : tie.Need-add-t38
 add-t38 c = record { fits = omega (arith, c .before .before .before .before .before .before .before .before .before .before .before .before .before .before .before .before .before .before .before .before .before .before .before .before .before .before .before .before .before .before .before .before .before .before .before .before .before .before .before .before .before .before .pre .1 .1 .1 .0) }
@@ -122,13 +129,13 @@ same-length-22 c = search needs
 
 returns-4 : tie.Need-returns-4
 returns-4 c = let s = c .before .before .before .before .before .before .before .before .before .before .before .before .before .before .before .before .before .before .before .before .before .before .before .before .before .before .before .before .before .before .before .before .before .before .before .before .before .before .before .before .before .before in let p = c .before .before .before .before .before .before .before .before .before .before .before .before .before .before in let w = c .before .before .before .before in inr (inl record {
-      allowed = c .before .before .before .before .before .before .before .before .before .before .before .before .before .before .before .before .before .before .before .before .before .before .before .before .before .before .before .before .before .before .before .before .if1 .left;
-      target = c .before .before .before .before .before .before .before .before .before .before .before .before .before .before .before .before .before .before .before .before .before .before .before .before .before .before .before .enter .result;
-      known = old _ _ _ _ _ _ _ _ _ _ _ _ (s .pre .1 .1 .0) (c .before .before .before .before .before .before .before .before .before .before .before .before .before .before .before .before .before .before .before .before .before .before .before .before .before .before .before .enter .ensures) (c .before .before .before .before .before .before .before .before .before .before .before .before .before .before .before .before .before .before .if2 .left) (c .if3 .left);
-      pushed = record { from = p .join .ensures .0; to = p .join .ensures .1 .0; code = p .join .ensures .1 .1; cost = w .price .ensures .0 ∙ ap (λ (z : ℤ). set (now (s .args .cost)) (s .args .m) z) (cost-is (c .before .before .before .before .before)); reward = w .price .ensures .1 };
-      nodes = refl;
-      arcs = refl;
-    })
+  allowed = c .before .before .before .before .before .before .before .before .before .before .before .before .before .before .before .before .before .before .before .before .before .before .before .before .before .before .before .before .before .before .before .before .if1 .left;
+  target = c .before .before .before .before .before .before .before .before .before .before .before .before .before .before .before .before .before .before .before .before .before .before .before .before .before .before .before .enter .result;
+  known = old _ _ _ _ _ _ _ _ _ _ _ _ (s .pre .1 .1 .0) (c .before .before .before .before .before .before .before .before .before .before .before .before .before .before .before .before .before .before .before .before .before .before .before .before .before .before .before .enter .ensures) (c .before .before .before .before .before .before .before .before .before .before .before .before .before .before .before .before .before .before .if2 .left) (c .if3 .left);
+  pushed = record { from = p .join .ensures .0; to = p .join .ensures .1 .0; code = p .join .ensures .1 .1; cost = w .price .ensures .0 ∙ ap (λ (z : ℤ). set (now (s .args .cost)) (s .args .m) z) (cost-is (c .before .before .before .before .before)); reward = w .price .ensures .1 };
+  nodes = refl;
+  arcs = refl;
+})
 
 pub take-turn-spec : {M : Type 1} → statement M
 take-turn-spec =
