@@ -1,0 +1,126 @@
+-- A turn of the search by its answer; and what the first test says of the buffers.
+use mathlib.Core.Path.{_≡_, refl, sym, ap, subst, _∙_}
+use mathlib.Core.Logic.{_⊎_, inl, inr, ⊎-elim}
+use mathlib.Core.Bool.{Bool, true, false, _&&_}
+use mathlib.Core.Option.{Option, none, some}
+use Prim.Native.Nat.{ℕ, zero, suc, _+_, _*_, _≤_, _<_}
+use native.Mathlib.Omega.{arith}
+use borrow.Author.Tests.{leb-true, le-leb}
+use lib.Dec.{leb}
+use lib.ListN.{length, replicate, length-set}
+use Rattle.automaton.specs.Automaton.{Automaton}
+use Rattle.automaton.specs.Priced.{Priced}
+use Rattle.automaton.specs.Nodes.{startNode}
+use Rattle.automaton.proofs.Tests.{&&-left, &&-right}
+use Rattle.walks.specs.Walk.{at}
+use Rattle.nodes.specs.Numbers.{firstLayout, number, clocksFrom, put, startNumber}
+use Rattle.region.specs.Step.{answered}
+use Rattle.region.specs.declared.Stepped.{Stepped}
+use Rattle.explore.specs.Buffers.{Buffers, LongEnough, each}
+use Rattle.explore.specs.Turns.{Turned, Skipped, Old, New, Over}
+use Rattle.explore.specs.Answer.{Stopped}
+use Rattle.explore.specs.declared.turns.Turn.{Turn}
+use Rattle.explore.specs.declared.turns.Turn.the-variants.{Full, Go}
+use Rattle.explore.proofs.SearchLaws.{Searched, seeded, skip, stop}
+use Rattle.explore.proofs.TurnLaws.{led, allowed, refused, known-turn, new-turn}
+
+-- ---- a turn
+module _ (step : ℕ → ℕ → Option (Priced ℕ)) (start : ℕ) (b₀ b b' : Buffers) (n m i k t : ℕ) (s : Stepped) (g : Searched step start (seeded b₀) b n m t)
+    (long : LongEnough b) (hi : i < n) (hk : k < 34) (turn : t ≡ 34 * i + k) (ht : t < 34 * n) (told : s ≡ answered (step (at (b .node) i) k)) where
+  leads : s .refusal ≡ 0 → step (at (b .node) i) k ≡ some (led s)
+  leads e = allowed (step (at (b .node) i) k) s told e
+
+  pub stopped : (r : Turn) → r ≡ Full → Turned b b' n m i k s r → Stopped step start b₀ b'
+  stopped r p w =
+      let o : Over b b' n s = subst (λ (r : Turn). Turned b b' n m i k s r) p w in
+      subst (λ (c : Buffers). Stopped step start b₀ c) (sym (o .same))
+      (stop step start b₀ b n m i k t (led s) g hi (o .full) (leads (o .allowed)) (o .fresh))
+
+  pub went : (r : Turn) (n' m' : ℕ) → r ≡ Go n' m' → Turned b b' n m i k s r → Searched step start (seeded b₀) b' n' m' (t + 1)
+  went r n' m' p w = ⊎-elim
+      (λ q. rw (q .nodes, q .arcs, q .same) (skip step start (seeded b₀) b n m i k t g hk turn ht (refused (step (at (b .node) i) k) s told (q .refused))))
+      (⊎-elim
+      (λ q. rw (q .nodes, q .arcs) (known-turn step start (seeded b₀) b b' n m i k t s g long hi hk turn (leads (q .allowed)) (q .target) ht (q .known) (q .pushed)))
+      (λ q. rw (q .nodes, q .arcs) (new-turn step start (seeded b₀) b b' n m i k t s g long hi hk turn (leads (q .allowed)) (q .added) (q .pushed) ht)))
+      (subst (λ (r : Turn). Turned b b' n m i k s r) p w)
+
+-- ---- the start
+clocks-zero : (j k : ℕ) → clocksFrom firstLayout j (replicate k 0) (replicate k 0) ≡ 0
+unfolding clocksFrom
+clocks-zero j zero = refl
+clocks-zero j (suc k) = let ih = clocks-zero (suc j) k in omega (arith, ih)
+
+pub start-zero : (A : Automaton) → startNumber firstLayout A ≡ 0
+unfolding number startNode
+start-zero A = omega (arith, clocks-zero 0 (A .clocks))
+
+-- ---- the lengths
+each-true : (least a b c d : ℕ) → each least a b c d ≡ true → (least ≤ a) × ((least ≤ b) × ((least ≤ c) × (least ≤ d)))
+each-true least a b c d e =
+    let f = &&-right (leb least a) (leb least b && (leb least c && leb least d)) e in
+    let h = &&-right (leb least b) (leb least c && leb least d) f in (
+      leb-true least a (&&-left (leb least a) (leb least b && (leb least c && leb least d)) e),
+      (leb-true least b (&&-left (leb least b) (leb least c && leb least d) f), (leb-true least c (&&-left (leb least c) (leb least d) h), leb-true least d (&&-right (leb least c) (leb least d) h))),
+    )
+
+pub each-is : (least a b c d : ℕ) → least ≤ a → least ≤ b → least ≤ c → least ≤ d → each least a b c d ≡ true
+each-is least a b c d p q r s = simp (le-leb least a p, le-leb least b q, le-leb least c r, le-leb least d s)
+
+-- the whole test
+abbrev pub fits : Buffers → Bool
+fits b = each 2048 (length (b .node)) (length (b .sorted)) (length (b .order)) (length (b .tree))
+    && (each 69632 (length (b .from)) (length (b .to)) (length (b .code)) (length (b .cost)) && leb 69632 (length (b .reward)))
+
+pub long-of : (b : Buffers) → fits b ≡ true → LongEnough b
+long-of b e =
+    let n = each 2048 (length (b .node)) (length (b .sorted)) (length (b .order)) (length (b .tree)) in
+    let m = each 69632 (length (b .from)) (length (b .to)) (length (b .code)) (length (b .cost)) in
+    let r = leb 69632 (length (b .reward)) in
+    let p = each-true 2048 (length (b .node)) (length (b .sorted)) (length (b .order)) (length (b .tree)) (&&-left n (m && r) e) in
+    let f = &&-right n (m && r) e in
+    let q = each-true 69632 (length (b .from)) (length (b .to)) (length (b .code)) (length (b .cost)) (&&-left m r f) in
+    record {
+      node = p .0;
+      sorted = p .1 .0;
+      order = p .1 .1 .0;
+      tree = p .1 .1 .1;
+      from = q .0;
+      to = q .1 .0;
+      code = q .1 .1 .0;
+      cost = q .1 .1 .1;
+      reward = leb-true 69632 (length (b .reward)) (&&-right m r f);
+    }
+
+pub not-long : (b : Buffers) → fits b ≡ false → LongEnough b → ⊥
+not-long b e g =
+    let z : fits b ≡ true = simp (
+      each-is 2048 (length (b .node)) (length (b .sorted)) (length (b .order)) (length (b .tree)) (g .node) (g .sorted) (g .order) (g .tree),
+      each-is 69632 (length (b .from)) (length (b .to)) (length (b .code)) (length (b .cost)) (g .from) (g .to) (g .code) (g .cost),
+      le-leb 69632 (length (b .reward)) (g .reward),
+    ) in
+    let y : _≡_ {A = ℕ} 0 1 = cc in omega arith
+
+-- ---- the lengths stay
+pub record Same (before after : Buffers) : Type 0 where
+  pub nodes : length (after .node) ≡ length (before .node)
+  pub sorted : length (after .sorted) ≡ length (before .sorted)
+  pub order : length (after .order) ≡ length (before .order)
+  pub tree : length (after .tree) ≡ length (before .tree)
+  pub from : length (after .from) ≡ length (before .from)
+  pub to : length (after .to) ≡ length (before .to)
+  pub code : length (after .code) ≡ length (before .code)
+  pub cost : length (after .cost) ≡ length (before .cost)
+  pub reward : length (after .reward) ≡ length (before .reward)
+
+pub long-kept : (before after : Buffers) → Same (seeded before) after → LongEnough before → LongEnough after
+long-kept before after s r = record {
+  node = omega (arith, s .nodes, r .node, length-set (before .node) 0 0);
+  sorted = omega (arith, s .sorted, r .sorted, length-set (before .sorted) 0 0);
+  order = omega (arith, s .order, r .order, length-set (before .order) 0 0);
+  tree = omega (arith, s .tree, r .tree);
+  from = omega (arith, s .from, r .from);
+  to = omega (arith, s .to, r .to);
+  code = omega (arith, s .code, r .code);
+  cost = omega (arith, s .cost, r .cost);
+  reward = omega (arith, s .reward, r .reward);
+}

@@ -1,0 +1,5 @@
+pub mod IndexLaws
+pub mod EnterLaws
+pub mod SearchLaws
+pub mod TurnLaws
+pub mod AnswerLaws

@@ -1,0 +1,4 @@
+pub mod Buffers
+pub mod Index
+pub mod Turns
+pub mod Answer

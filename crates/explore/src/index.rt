@@ -1,0 +1,68 @@
+// The nodes found so far, and a sorted index of their numbers.
+ghost use mathlib.Core.Path.{_≡_};
+ghost use Prim.Native.Nat.{ℕ, _+_, _<_, _≤_};
+ghost use lib.ListN.{length};
+ghost use Rattle.explore.specs.Index.{Rising, Place, Inserted, Index, Entered};
+
+// The first of the places below n whose number is at least x, or n.
+fn place(sorted: &[u32], n: usize, x: u32) -> usize
+    requires { ⌜ n ≤ length (now sorted) ⌝ ∗ ⌜ Rising (now sorted) n ⌝ }
+    ensures { λ r. ⌜ Place (now (sorted .entry)) n x r ⌝ }
+{
+    let mut low = 0;
+    let mut high = n;
+    while low < high {
+        let mid = low + (high - low) / 2;
+        if sorted[mid] < x {
+            low = mid + 1;
+        } else {
+            high = mid;
+        }
+    }
+    low
+}
+
+// Puts x at place p; what stood from there to place n moves up by one.
+fn insert(list: &mut [u32], n: usize, p: usize, x: u32)
+    requires { ⌜ n < length (now list) ⌝ ∗ ⌜ p ≤ n ⌝ }
+    ensures { λ _. ⌜ Inserted (now (list .entry)) (now (list .exit)) n p x ⌝ }
+{
+    let mut i = n;
+    while p < i {
+        let v = list[i - 1];
+        list[i] = v;
+        i -= 1;
+    }
+    list[p] = x;
+}
+
+// The place of the number y among the n nodes found; a new one is added as node n, discovered by the arc m, if there is room.
+pub(crate) fn enter(
+    nodes: &mut [u32],
+    sorted: &mut [u32],
+    order: &mut [u32],
+    tree: &mut [usize],
+    n: usize,
+    y: u32,
+    m: usize,
+) -> usize
+    requires { ⌜ Index (now nodes) (now sorted) (now order) n ⌝ ∗ ⌜ n ≤ 2048 ⌝ }
+    requires { ⌜ 2048 ≤ length (now nodes) ⌝ ∗ ⌜ 2048 ≤ length (now sorted) ⌝ ∗ ⌜ 2048 ≤ length (now order) ⌝ ∗ ⌜ 2048 ≤ length (now tree) ⌝ }
+    ensures { λ j. ⌜ Entered (now (nodes .entry)) (now (sorted .entry)) (now (order .entry)) (now (tree .entry))
+        (now (nodes .exit)) (now (sorted .exit)) (now (order .exit)) (now (tree .exit)) n y m j ⌝ }
+{
+    let p = place(sorted, n, y);
+    if p < n {
+        if sorted[p] == y {
+            return order[p] as usize;
+        }
+    }
+    if n == 2048 {
+        return n;
+    }
+    nodes[n] = y;
+    tree[n] = m;
+    insert(sorted, n, p, y);
+    insert(order, n, p, n as u32);
+    n
+}

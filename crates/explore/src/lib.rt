@@ -1,0 +1,105 @@
+// The nodes that are reachable on a decoded sheet, in order of discovery, and all steps between them as the arcs of a graph.
+ghost use mathlib.Core.Path.{_≡_};
+ghost use mathlib.Core.Bool.{_&&_};
+ghost use Prim.Native.Nat.{ℕ};
+ghost use lib.Dec.{leb};
+ghost use Rattle.nodes.specs.Numbers.{firstLayout, stepBy, startNumber};
+ghost use Rattle.nodes.specs.Decoded.{decodedMeaning};
+ghost use Rattle.explore.specs.Buffers.{buffers, each};
+ghost use Rattle.explore.specs.Answer.{Answered};
+use sheet::Sheet;
+
+mod index;
+mod search;
+mod turns;
+
+// A buffer is too short; more than 2,048 nodes are reachable; or so many nodes and arcs.
+pub enum Outcome {
+    Malformed,
+    TooMany,
+    Graph(usize, usize),
+}
+
+fn each_at_least(least: usize, a: usize, b: usize, c: usize, d: usize) -> bool
+    ensures { λ r. ⌜ r ≡ (each least a b c d) ⌝ }
+{
+    if a < least {
+        return false;
+    }
+    if b < least {
+        return false;
+    }
+    if c < least {
+        return false;
+    }
+    least <= d
+}
+
+// Room for 2,048 nodes, and for an arc for each node and code.
+fn long_enough(
+    nodes: usize,
+    sorted: usize,
+    order: usize,
+    tree: usize,
+    from: usize,
+    to: usize,
+    code: usize,
+    cost: usize,
+    reward: usize,
+) -> bool
+    ensures { λ r. ⌜ r ≡ (each 2048 nodes sorted order tree && (each 69632 from to code cost && leb 69632 reward)) ⌝ }
+{
+    if !each_at_least(2048, nodes, sorted, order, tree) {
+        return false;
+    }
+    if !each_at_least(69632, from, to, code, cost) {
+        return false;
+    }
+    69632 <= reward
+}
+
+// Nothing is written where a buffer is too short.
+pub fn explore(
+    sheet: Sheet,
+    nodes: &mut [u32],
+    sorted: &mut [u32],
+    order: &mut [u32],
+    tree: &mut [usize],
+    from: &mut [u16],
+    to: &mut [u16],
+    code: &mut [u16],
+    cost: &mut [i16],
+    reward: &mut [u16],
+) -> Outcome
+    ensures { λ r. ⌜ Answered (stepBy firstLayout (decodedMeaning sheet)) (startNumber firstLayout (decodedMeaning sheet))
+        (buffers (now (nodes .entry)) (now (sorted .entry)) (now (order .entry)) (now (tree .entry))
+        (now (from .entry)) (now (to .entry)) (now (code .entry)) (now (cost .entry)) (now (reward .entry)))
+        (buffers (now (nodes .exit)) (now (sorted .exit)) (now (order .exit)) (now (tree .exit))
+        (now (from .exit)) (now (to .exit)) (now (code .exit)) (now (cost .exit)) (now (reward .exit))) r ⌝ }
+{
+    if !long_enough(
+        nodes.len(),
+        sorted.len(),
+        order.len(),
+        tree.len(),
+        from.len(),
+        to.len(),
+        code.len(),
+        cost.len(),
+        reward.len(),
+    ) {
+        return Outcome::Malformed;
+    }
+    search::search(
+        sheet,
+        nodes,
+        sorted,
+        order,
+        tree,
+        from,
+        to,
+        code,
+        cost,
+        reward,
+    )
+}

@@ -1,0 +1,66 @@
+// The search: turn by turn, each code at each node found.
+ghost use mathlib.Core.Path.{_≡_};
+ghost use Rattle.nodes.specs.Numbers.{firstLayout, stepBy, startNumber};
+ghost use Rattle.nodes.specs.Decoded.{decodedMeaning};
+ghost use Rattle.explore.specs.Buffers.{buffers, LongEnough};
+ghost use Rattle.explore.specs.Answer.{Answered};
+use crate::Outcome;
+use crate::turns::Turn;
+use sheet::Sheet;
+
+// Turn t is the code t % 34 at the node t / 34.
+pub(crate) fn search(
+    sheet: Sheet,
+    nodes: &mut [u32],
+    sorted: &mut [u32],
+    order: &mut [u32],
+    tree: &mut [usize],
+    from: &mut [u16],
+    to: &mut [u16],
+    code: &mut [u16],
+    cost: &mut [i16],
+    reward: &mut [u16],
+) -> Outcome
+    requires { ⌜ LongEnough (buffers (now nodes) (now sorted) (now order) (now tree) (now from) (now to) (now code) (now cost) (now reward)) ⌝ }
+    ensures { λ r. ⌜ Answered (stepBy firstLayout (decodedMeaning sheet)) (startNumber firstLayout (decodedMeaning sheet))
+        (buffers (now (nodes .entry)) (now (sorted .entry)) (now (order .entry)) (now (tree .entry))
+        (now (from .entry)) (now (to .entry)) (now (code .entry)) (now (cost .entry)) (now (reward .entry)))
+        (buffers (now (nodes .exit)) (now (sorted .exit)) (now (order .exit)) (now (tree .exit))
+        (now (from .exit)) (now (to .exit)) (now (code .exit)) (now (cost .exit)) (now (reward .exit))) r ⌝ }
+{
+    nodes[0] = 0;
+    sorted[0] = 0;
+    order[0] = 0;
+    let mut n = 1;
+    let mut m = 0;
+    let mut t = 0;
+    while t < 34 * n {
+        let i = t / 34;
+        let k = t % 34;
+        let x = nodes[i];
+        let s = region::sheets::step_from(sheet, x, k as u16);
+        let v = crate::turns::take_turn(
+            nodes,
+            sorted,
+            order,
+            tree,
+            from,
+            to,
+            code,
+            cost,
+            reward,
+            n,
+            m,
+            i,
+            k,
+            s,
+        );
+        let Turn::Go(a, b) = v else {
+            return Outcome::TooMany;
+        };
+        n = a;
+        m = b;
+        t += 1;
+    }
+    Outcome::Graph(n, m)
+}
