@@ -14,7 +14,7 @@ use Rattle.automaton.specs.Nodes.{startNode}
 use Rattle.automaton.proofs.Tests.{&&-left, &&-right}
 use Rattle.walks.specs.Walk.{at}
 use Rattle.nodes.specs.Numbers.{firstLayout, number, clocksFrom, put, startNumber}
-use Rattle.region.specs.Step.{answered}
+use Rattle.region.specs.Answers.{answered}
 use Rattle.region.specs.declared.Stepped.{Stepped}
 use Rattle.explore.specs.Buffers.{Buffers, LongEnough, each}
 use Rattle.explore.specs.Turns.{Turned, Skipped, Old, New, Over}

@@ -13,7 +13,7 @@ use Rattle.automaton.specs.Walks.{Reachable}
 use Rattle.automaton.proofs.Walks.{reach-step}
 use Rattle.walks.specs.Walk.{at, atℤ}
 use Rattle.contract.specs.Explored.{ArcOf}
-use Rattle.region.specs.Step.{answered}
+use Rattle.region.specs.Answers.{answered}
 use Rattle.region.specs.declared.Stepped.{Stepped}
 use Rattle.explore.specs.Buffers.{Buffers, found, LongEnough}
 use Rattle.explore.specs.Index.{Index, Known, Added}

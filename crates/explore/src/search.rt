@@ -38,7 +38,7 @@ pub(crate) fn search(
         let i = t / 34;
         let k = t % 34;
         let x = nodes[i];
-        let s = region::sheets::step_from(sheet, x, k as u16);
+        let s = step::step_from(sheet, x, k as u16);
         let v = crate::turns::take_turn(
             nodes,
             sorted,

@@ -48,7 +48,7 @@ print-decimal-requires : tie.Need-print-decimal-requires
 print-decimal-requires c κs = search needs
 
 cast-print-decimal-2 : tie.Need-cast-print-decimal-2
-cast-print-decimal-2 c = 
+cast-print-decimal-2 c =
     let z = c .before .args .z in
     let e = toZ-ofZ w64 z (c .before .fits .z) in
     cast-pos _ (natAbs z) (omega (arith, natAbs-le z (c .before .fits .z .sfits))) (e ∙ kept z (ap (λ (x : ℤ). ltZ x (pos 0)) (sym e) ∙ c .if1 .left))
