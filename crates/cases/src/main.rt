@@ -1,66 +1,15 @@
-// Runs the cases on standard input, a line each, and prints each answer with the case's name.
-// `check SHEET NAME`: the number that the sheet check answers to a sheet in hexadecimal.
-ghost use Prim.Native.Nat.{_≤_};
-ghost use lib.ListN.{length};
+// Runs the cases on standard input, a line each, with the sheet in hexadecimal.
+// `check SHEET NAME`: the number that the sheet check answers, and the case's name.
+// `step SHEET NODE CODE`: refusal, node, cost and reward of a single step.
 use libc::STDIN_FILENO;
 use libc::STDOUT_FILENO;
 
-// The value of a hexadecimal digit, 16 for any other byte.
-fn digit(b: u8) -> u8
-    ensures { λ r. ⌜ r ≤ 16 ⌝ }
-{
-    match b {
-        48..=57 => b - 48,
-        97..=102 => b - 87,
-        _ => 16,
-    }
-}
+mod show;
+mod text;
 
-fn digit_at(s: &[u8], at: usize) -> u8
-    ensures { λ r. ⌜ r ≤ 16 ⌝ }
-{
-    if at < s.len() { digit(s[at]) } else { 16 }
-}
-
-// Turns pairs of digits from a place on into bytes, and answers how many there are.
-fn unhex(s: &[u8], from: usize, out: &mut [u8]) -> usize
-    requires { ⌜ from ≤ 4096 ⌝ ∗ ⌜ length (now out) ≤ 4096 ⌝ }
-    ensures { λ r. ⌜ r ≤ length (now (out .exit)) ⌝ ∗ ⌜ r ≤ 4096 ⌝ }
-{
-    let mut n: usize = 0;
-    while n < out.len() {
-        let high = digit_at(s, from + 2 * n);
-        let low = digit_at(s, from + 2 * n + 1);
-        if 16 <= high {
-            return n;
-        }
-        if 16 <= low {
-            return n;
-        }
-        out[n] = 16 * high + low;
-        n += 1;
-    }
-    n
-}
-
-// The end of the line that begins at a place.
-fn line_end(s: &[u8], from: usize) -> usize
-    requires { ⌜ from ≤ length (now s) ⌝ }
-    ensures { λ r. ⌜ from ≤ r ⌝ ∗ ⌜ r ≤ length (now (s .entry)) ⌝ }
-{
-    let mut at = from;
-    while at < s.len() {
-        if s[at] == 10 {
-            return at;
-        }
-        at += 1;
-    }
-    at
-}
-
-fn run(line: &[u8]) {
+fn check_case(line: &[u8]) {
     let mut bytes = [0u8; 640];
-    let n = unhex(line, 6, &mut bytes);
+    let n = text::unhex(line, 6, &mut bytes);
     let refusal = sheet::check(&bytes[..n]);
     io::print_decimal(STDOUT_FILENO, refusal as u64);
     let name = 6 + 2 * n;
@@ -70,14 +19,55 @@ fn run(line: &[u8]) {
     io::write_all(STDOUT_FILENO, b"\n");
 }
 
-fn main() {
-    let mut buffer = [0u8; 131072];
-    let n = io::read_full(STDIN_FILENO, &mut buffer);
-    let text = &buffer[..n];
+fn unknown() {
+    io::write_all(
+        STDOUT_FILENO,
+        b"neither check SHEET NAME nor step SHEET NODE CODE\n",
+    );
+}
+
+fn step_case(line: &[u8]) {
+    let mut bytes = [0u8; 640];
+    let n = text::unhex(line, 5, &mut bytes);
+    let from = 6 + 2 * n;
+    if line.len() < from {
+        unknown();
+        return;
+    }
+    let end = text::find(line, from, b' ');
+    if end == line.len() {
+        unknown();
+        return;
+    }
+    let number = text::decimal(&line[from..end]);
+    let rest = end + 1;
+    let code = (text::decimal(&line[rest..]) % 65536) as u16;
+    show::stepped(step::step(&bytes[..n], number, code));
+}
+
+fn run(line: &[u8]) {
+    if text::begins(line, b"check ") {
+        check_case(line);
+        return;
+    }
+    if text::begins(line, b"step ") {
+        step_case(line);
+        return;
+    }
+    unknown();
+}
+
+fn each_line(s: &[u8]) {
     let mut at: usize = 0;
-    while at < text.len() {
-        let end = line_end(text, at);
-        run(&text[at..end]);
+    while at < s.len() {
+        let end = text::find(s, at, b'\n');
+        run(&s[at..end]);
         at = end + 1;
     }
+}
+
+fn main() {
+    let mut buffer = [0u8; 524288];
+    let n = io::read_full(STDIN_FILENO, &mut buffer);
+    each_line(&buffer[..n]);
 }

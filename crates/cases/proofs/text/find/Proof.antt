@@ -2,8 +2,8 @@
 use Prim.Native.Nat.{_-_, _≤_}
 use borrow.Author.Needs.{needs}
 use lib.ListN.{length}
-use Rattle.step_cases.proofs.find.Statement.{statement}
-use Rattle.step_cases.proofs.find.Tie as tie
+use Rattle.cases.proofs.text.find.Statement.{statement}
+use Rattle.cases.proofs.text.find.Tie as tie
 
 abbrev Inv-loop : tie.InvT-loop
 Inv-loop s from c i₀ i = (from ≤ i) × (i ≤ length s)

@@ -2,8 +2,8 @@
 use Prim.Native.Nat.{_-_, _≤_, _<_}
 use borrow.Author.Needs.{needs}
 use lib.ListN.{length}
-use Rattle.step_cases.proofs.decimal.Statement.{statement}
-use Rattle.step_cases.proofs.decimal.Tie as tie
+use Rattle.cases.proofs.text.decimal.Statement.{statement}
+use Rattle.cases.proofs.text.decimal.Tie as tie
 
 abbrev Inv-loop : tie.InvT-loop
 Inv-loop s x₀ i₀ x i = (i ≤ length s) × (x < 4294967296)

@@ -1,9 +1,9 @@
 -- -1 less a number below 0 is not below 0.
 use native.Mathlib.Omega.{arith}
-use Rattle.step_cases.proofs.SignLaws.{cast, size-of, down-fits, below}
+use Rattle.cases.proofs.SignLaws.{cast, size-of, down-fits, below}
 use borrow.Author.Needs.{needs}
-use Rattle.step_cases.proofs.below_zero.Statement.{statement}
-use Rattle.step_cases.proofs.below_zero.Tie as tie
+use Rattle.cases.proofs.show.below_zero.Statement.{statement}
+use Rattle.cases.proofs.show.below_zero.Tie as tie
 
 sub-result : tie.Need-sub-result
 sub-result c = down-fits (c .before .args .z) (c .before .fits .z) (c .if1 .taken)

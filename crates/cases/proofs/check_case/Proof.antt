@@ -2,8 +2,8 @@
 use mathlib.Core.Path.{sym}
 use borrow.Author.Needs.{needs}
 use lib.Seq.{length-take-le}
-use Rattle.cases.proofs.run.Statement.{statement}
-use Rattle.cases.proofs.run.Tie as tie
+use Rattle.cases.proofs.check_case.Statement.{statement}
+use Rattle.cases.proofs.check_case.Tie as tie
 
 slice-aggregate-unhex : tie.Need-slice-aggregate-unhex
 slice-aggregate-unhex c = search needs
@@ -53,8 +53,8 @@ write-all-requires-2 c κs = search needs
 returns : tie.Need-returns
 returns c = search needs
 
-pub run-spec : {M : Type 1} → statement M
-run-spec =
+pub check-case-spec : {M : Type 1} → statement M
+check-case-spec =
     tie.close
     (tie.spec
     slice-aggregate-unhex

@@ -1,8 +1,8 @@
 -- It is not below 0.
-use Rattle.step_cases.proofs.SignLaws.{cast, above}
+use Rattle.cases.proofs.SignLaws.{cast, above}
 use borrow.Author.Needs.{needs}
-use Rattle.step_cases.proofs.above_zero.Statement.{statement}
-use Rattle.step_cases.proofs.above_zero.Tie as tie
+use Rattle.cases.proofs.show.above_zero.Statement.{statement}
+use Rattle.cases.proofs.show.above_zero.Tie as tie
 
 returns : tie.Need-returns
 returns c = search needs

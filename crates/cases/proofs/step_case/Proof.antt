@@ -1,27 +1,36 @@
--- The first space is within the line.
+-- The bytes read stand at the front of the buffer.
 use mathlib.Core.Path.{sym}
 use borrow.Author.Needs.{needs}
 use lib.Seq.{length-take-le}
-use Rattle.step_cases.proofs.one.Statement.{statement}
-use Rattle.step_cases.proofs.one.Tie as tie
-
-find-requires : tie.Need-find-requires
-find-requires c κs = search needs
+use Rattle.cases.proofs.step_case.Statement.{statement}
+use Rattle.cases.proofs.step_case.Tie as tie
 
 slice-aggregate-unhex : tie.Need-slice-aggregate-unhex
-slice-aggregate-unhex c = sym (length-take-le (c .before .find .result) (c .before .before .before .args .line .now) (search needs))
+slice-aggregate-unhex c = search needs
 
 unhex-requires : tie.Need-unhex-requires
 unhex-requires c κs = search needs
 
-returns : tie.Need-returns
-returns c = search needs
+mul-from : tie.Need-mul-from
+mul-from c = search needs
 
 add-from : tie.Need-add-from
 add-from c = search needs
 
-find-requires-2 : tie.Need-find-requires-2
-find-requires-2 c κs = search needs
+unknown-requires : tie.Need-unknown-requires
+unknown-requires c κs = search needs
+
+returns : tie.Need-returns
+returns c = search needs
+
+find-requires : tie.Need-find-requires
+find-requires c κs = search needs
+
+unknown-requires-2 : tie.Need-unknown-requires-2
+unknown-requires-2 c κs = search needs
+
+returns-2 : tie.Need-returns-2
+returns-2 c = search needs
 
 sub-decimal : tie.Need-sub-decimal
 sub-decimal c = search needs
@@ -34,9 +43,6 @@ part-decimal-end c = search needs
 
 decimal-requires : tie.Need-decimal-requires
 decimal-requires c κs = search needs
-
-returns-2 : tie.Need-returns-2
-returns-2 c = search needs
 
 add-rest : tie.Need-add-rest
 add-rest c = search needs
@@ -56,36 +62,46 @@ decimal-requires-2 c κs = search needs
 cast-code : tie.Need-cast-code
 cast-code c = search needs
 
-bytes-in-requires : tie.Need-bytes-in-requires
-bytes-in-requires c κs = search needs
+array-share-prefix-bytes : tie.Need-array-share-prefix-bytes
+array-share-prefix-bytes c = search needs
 
-answer-requires : tie.Need-answer-requires
-answer-requires c κs = search needs
+slice-aggregate-step : tie.Need-slice-aggregate-step
+slice-aggregate-step c = sym (length-take-le _ _ (search needs))
+
+step-requires : tie.Need-step-requires
+step-requires c κs = search needs
+
+stepped-requires : tie.Need-stepped-requires
+stepped-requires c κs = search needs
 
 returns-3 : tie.Need-returns-3
 returns-3 c = search needs
 
-pub one-spec : {M : Type 1} → statement M
-one-spec =
+pub step-case-spec : {M : Type 1} → statement M
+step-case-spec =
     tie.close
     (tie.spec
-    find-requires
     slice-aggregate-unhex
     unhex-requires
-    returns
+    mul-from
     add-from
-    find-requires-2
+    unknown-requires
+    returns
+    find-requires
+    unknown-requires-2
+    returns-2
     sub-decimal
     part-decimal-start
     part-decimal-end
     decimal-requires
-    returns-2
     add-rest
     sub-decimal-2
     part-decimal-start-2
     part-decimal-end-2
     decimal-requires-2
     cast-code
-    bytes-in-requires
-    answer-requires
+    array-share-prefix-bytes
+    slice-aggregate-step
+    step-requires
+    stepped-requires
     returns-3)

@@ -4,8 +4,8 @@ use Prim.Native.Nat.{_≤_, _-_}
 use borrow.Author.Needs.{needs}
 use native.Mathlib.Omega.{arith}
 use lib.ListN.{length, length-set}
-use Rattle.cases.proofs.unhex.Statement.{statement}
-use Rattle.cases.proofs.unhex.Tie as tie
+use Rattle.cases.proofs.text.unhex.Statement.{statement}
+use Rattle.cases.proofs.text.unhex.Tie as tie
 
 abbrev Inv-loop : tie.InvT-loop
 Inv-loop s from out₀ n₀ out n = (length out ≡ length out₀) × (n ≤ length out)

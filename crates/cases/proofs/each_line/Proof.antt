@@ -2,8 +2,8 @@
 use Prim.Native.Nat.{_+_, _-_, _≤_}
 use borrow.Author.Needs.{needs}
 use lib.ListN.{length}
-use Rattle.step_cases.proofs.each_line.Statement.{statement}
-use Rattle.step_cases.proofs.each_line.Tie as tie
+use Rattle.cases.proofs.each_line.Statement.{statement}
+use Rattle.cases.proofs.each_line.Tie as tie
 
 abbrev Inv-loop : tie.InvT-loop
 Inv-loop s at₀ at = at ≤ length s + 1
@@ -17,17 +17,17 @@ loop-holds c = search needs
 find-requires : tie.Need-find-requires Inv-loop μ-loop
 find-requires c κs = search needs
 
-sub-one : tie.Need-sub-one Inv-loop μ-loop
-sub-one c = search needs
+sub-run : tie.Need-sub-run Inv-loop μ-loop
+sub-run c = search needs
 
-part-one-start : tie.Need-part-one-start Inv-loop μ-loop
-part-one-start c = search needs
+part-run-start : tie.Need-part-run-start Inv-loop μ-loop
+part-run-start c = search needs
 
-part-one-end : tie.Need-part-one-end Inv-loop μ-loop
-part-one-end c = search needs
+part-run-end : tie.Need-part-run-end Inv-loop μ-loop
+part-run-end c = search needs
 
-one-requires : tie.Need-one-requires Inv-loop μ-loop
-one-requires c κs = search needs
+run-requires : tie.Need-run-requires Inv-loop μ-loop
+run-requires c κs = search needs
 
 add-at : tie.Need-add-at Inv-loop μ-loop
 add-at c = search needs
@@ -49,10 +49,10 @@ each-line-spec =
     μ-loop
     loop-holds
     find-requires
-    sub-one
-    part-one-start
-    part-one-end
-    one-requires
+    sub-run
+    part-run-start
+    part-run-end
+    run-requires
     add-at
     loop-less
     loop-again
