@@ -16,7 +16,7 @@ refused-requires : tie.Need-refused-requires
 refused-requires c κs = search needs
 
 returns : tie.Need-returns
-returns c = c .refused .ensures ∙ elsewhere (c .before .before .before .before .args .clocks) (c .before .before .before .before .args .edge) (c .before .before .before .before .args .target) (c .before .before .before .before .args .number)  (λ q. c .before .if1 .taken (q ∙ sym (c .before .before .before .location-in .ensures)))
+returns c = c .refused .ensures ∙ elsewhere (c .before .before .before .before .args .clocks) (c .before .before .before .before .args .edge) (c .before .before .before .before .args .target) (c .before .before .before .before .args .number) (λ q. c .before .if1 .taken (q ∙ sym (c .before .before .before .location-in .ensures)))
 
 few-requires : tie.Need-few-requires
 few-requires c κs = search needs
