@@ -16,7 +16,7 @@ use Rattle.automaton.specs.Steps.{edgeTo, edgeAllowed, edgeStep, step}
 use Rattle.automaton.proofs.Tests.{&&-intro}
 use Rattle.sheet.specs.declared.Edge.{Edge}
 use Rattle.sheet.specs.declared.Location.{Location}
-use Rattle.nodes.specs.Numbers.{firstLayout, number, nodeOf, stepBy}
+use Rattle.nodes.specs.Numbers.{firstLayout, bitsOf, number, nodeOf, stepBy}
 use Rattle.nodes.specs.Decoded.{fewClocks, boundIn, lowerIn, alone}
 use Rattle.nodes.proofs.Carried.{named}
 use Rattle.region.specs.Answers.{refused, answered}
@@ -67,8 +67,9 @@ module _ (k : ℕ) (e : Edge) (l : Location) (x : ℕ) where
   same-landing = ap (λ (n : Node). boundsIn (l .upper) (fewClocks k) (n .region)) arrays ∙ same-inside k e l (edgeTo A u 0) landing
 
   -- the three tests, each where the ones before it passed
-  edge-elsewhere : (e .source ≡ u .location → ⊥) → refused 16 ≡ answered (stepBy firstLayout A x 0)
-  edge-elsewhere n = edge-by false (unfold alone in ap (λ (b : Bool). b && (inGuards lowerHolds upperHolds A 0 (intervals (u .region)) && inside A (edgeTo A u 0))) (ne-eqb _ _ n))
+  pub elsewhere : (e .source ≡ bitsOf x 4 20 → ⊥) → refused 16 ≡ answered (stepBy firstLayout A x 0)
+  unfolding nodeOf
+  elsewhere n = edge-by false (unfold alone in ap (λ (b : Bool). b && (inGuards lowerHolds upperHolds A 0 (intervals (u .region)) && inside A (edgeTo A u 0))) (ne-eqb _ _ n))
 
   edge-unguarded : guardsIn (e .lower) (e .upper) (fewClocks k) (inArrays u .region) ≡ false → refused 16 ≡ answered (stepBy firstLayout A x 0)
   edge-unguarded h = edge-by false (unfold alone in (ap (λ (b : Bool). eqb (e .source) (u .location) && (b && inside A (edgeTo A u 0))) (sym same-guards ∙ h)
@@ -92,9 +93,6 @@ module _ (k : ℕ) (e : Edge) (l : Location) (x kk : ℕ) (n : Node) (few : kk �
   node : n ≡ inArrays (nodeOf firstLayout (fewClocks k) x)
   node = is ∙ ap (λ (m : ℕ). inArrays (nodeOf firstLayout m x)) few
 
-  pub elsewhere : (e .source ≡ n .location → ⊥) → refused 16 ≡ answered (stepBy firstLayout (alone k e l) x 0)
-  elsewhere d = edge-elsewhere k e l x (λ q. d (q ∙ sym (ap (λ (m : Node). m .location) node)))
-
   pub unguarded : guardsIn (e .lower) (e .upper) kk (n .region) ≡ false → refused 16 ≡ answered (stepBy firstLayout (alone k e l) x 0)
   unguarded h = edge-unguarded k e l x (sym (ap₂ (λ (m : ℕ) (n : Node). guardsIn (e .lower) (e .upper) m (n .region)) few node) ∙ h)
 
@@ -105,10 +103,14 @@ module _ (k : ℕ) (e : Edge) (l : Location) (x kk : ℕ) (n : Node) (few : kk �
     pub outside : boundsIn (l .upper) kk (v .region) ≡ false → refused 16 ≡ answered (stepBy firstLayout (alone k e l) x 0)
     outside h = edge-outside k e l x (sym (ap₂ (λ (m : ℕ) (n : Node). boundsIn (l .upper) m (n .region)) few led) ∙ h)
 
-    pub taken : (c : ℤ) → c ≡ e .cost → e .source ≡ n .location → guardsIn (e .lower) (e .upper) kk (n .region) ≡ true
+    here : bitsOf x 4 20 ≡ nodeOf firstLayout (fewClocks k) x .location
+    unfolding nodeOf
+    here = refl
+
+    pub taken : (c : ℤ) → c ≡ e .cost → e .source ≡ bitsOf x 4 20 → guardsIn (e .lower) (e .upper) kk (n .region) ≡ true
         → boundsIn (l .upper) kk (v .region) ≡ true → (z : ℕ) → z ≡ number firstLayout (fromArrays v)
         → _≡_ {A = Stepped} (record { refusal = 0; number = z; cost = c; reward = e .reward }) (answered (stepBy firstLayout (alone k e l) x 0))
     taken c p s g b z q = (λ i. record { refusal = 0; number = (q ∙ ap (λ (m : Node). number firstLayout (fromArrays m)) led) i; cost = p i; reward = e .reward })
-        ∙ edge-taken k e l x (s ∙ ap (λ (m : Node). m .location) node)
+        ∙ edge-taken k e l x (s ∙ here)
         (sym (ap₂ (λ (m : ℕ) (n : Node). guardsIn (e .lower) (e .upper) m (n .region)) few node) ∙ g)
         (sym (ap₂ (λ (m : ℕ) (n : Node). boundsIn (l .upper) m (n .region)) few led) ∙ b)

@@ -21,11 +21,11 @@ pub fn unit_step(number: u32, clocks: u8, location: Location) -> Stepped
     let k = crate::few(clocks);
     let node = crate::numbers::unpack(number, k);
     let region = node.region;
-    let class = region.class;
-    if crate::ranks::occurs_in(class, k, 0) {
+    let ranks = region.class;
+    if crate::ranks::occurs_in(ranks, k, 0) {
         return crate::refused(16);
     }
-    if node.corner != crate::ranks::largest_of(class) {
+    if node.corner != crate::ranks::largest_of(ranks) {
         return crate::refused(16);
     }
     let next = Node {

@@ -63,11 +63,11 @@ fn after_edge(node: Node, target: u8, reset: u8) -> Node
 pub fn edge_step(number: u32, clocks: u8, edge: Edge, target: Location) -> Stepped
     ensures { λ r. ⌜ r ≡ answered (stepBy firstLayout (alone clocks edge target) number 0) ⌝ }
 {
-    let k = crate::few(clocks);
-    let node = crate::numbers::unpack(number, k);
-    if edge.source != node.location {
+    if edge.source != crate::location_in(number) {
         return crate::refused(16);
     }
+    let k = crate::few(clocks);
+    let node = crate::numbers::unpack(number, k);
     let lower = edge.lower;
     let upper = edge.upper;
     if !crate::bounds::guards_hold(node.region, lower, upper, k) {
