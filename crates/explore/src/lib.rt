@@ -11,6 +11,7 @@ use sheet::Sheet;
 
 mod index;
 mod search;
+mod steps;
 mod turns;
 
 // A buffer is too short; more than 2,048 nodes are reachable; or so many nodes and arcs.

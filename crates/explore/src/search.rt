@@ -28,6 +28,8 @@ pub(crate) fn search(
         (buffers (now (nodes .exit)) (now (sorted .exit)) (now (order .exit)) (now (tree .exit))
         (now (from .exit)) (now (to .exit)) (now (code .exit)) (now (cost .exit)) (now (reward .exit))) r ⌝ }
 {
+    let edges = sheet.edge;
+    let source = crate::steps::sources(edges);
     nodes[0] = 0;
     sorted[0] = 0;
     order[0] = 0;
@@ -38,7 +40,8 @@ pub(crate) fn search(
         let i = t / 34;
         let k = t % 34;
         let x = nodes[i];
-        let s = step::step_from(sheet, x, k as u16);
+        let j = k % 32;
+        let s = crate::steps::step_at(sheet, x, k, source[j]);
         let v = crate::turns::take_turn(
             nodes,
             sorted,
