@@ -1,8 +1,8 @@
 -- A turn of the search by its answer; and what the first test says of the buffers.
-use mathlib.Core.Path.{_≡_, refl, sym, ap, subst, _∙_}
-use mathlib.Core.Logic.{_⊎_, inl, inr, ⊎-elim}
+use mathlib.Core.Path.{_≡_, refl, sym, subst}
+use mathlib.Core.Logic.{⊎-elim}
 use mathlib.Core.Bool.{Bool, true, false, _&&_}
-use mathlib.Core.Option.{Option, none, some}
+use mathlib.Core.Option.{Option, some}
 use Prim.Native.Nat.{ℕ, zero, suc, _+_, _*_, _≤_, _<_}
 use native.Mathlib.Omega.{arith}
 use borrow.Author.Tests.{leb-true, le-leb}
@@ -13,11 +13,11 @@ use Rattle.automaton.specs.Priced.{Priced}
 use Rattle.automaton.specs.Nodes.{startNode}
 use Rattle.automaton.proofs.Tests.{&&-left, &&-right}
 use Rattle.walks.specs.Walk.{at}
-use Rattle.nodes.specs.Numbers.{firstLayout, number, clocksFrom, put, startNumber}
+use Rattle.nodes.specs.Numbers.{firstLayout, number, clocksFrom, startNumber}
 use Rattle.region.specs.Step.{answered}
 use Rattle.region.specs.declared.Stepped.{Stepped}
 use Rattle.explore.specs.Buffers.{Buffers, LongEnough, each}
-use Rattle.explore.specs.Turns.{Turned, Skipped, Old, New, Over}
+use Rattle.explore.specs.Turns.{Turned, Over}
 use Rattle.explore.specs.Answer.{Stopped}
 use Rattle.explore.specs.declared.turns.Turn.{Turn}
 use Rattle.explore.specs.declared.turns.Turn.the-variants.{Full, Go}

@@ -1,11 +1,11 @@
 -- What a turn comes to, by what `enter` answers.
-use mathlib.Core.Path.{_≡_, refl, sym, ap, subst, _∙_}
+use mathlib.Core.Path.{_≡_, subst, _∙_}
 use mathlib.Core.List.{List}
-use Prim.Native.Nat.{ℕ, _≤_, _<_}
+use Prim.Native.Nat.{ℕ, _≤_}
 use native.Mathlib.Omega.{arith}
 use lib.IntN.{ℤ}
 use Rattle.region.specs.declared.Stepped.{Stepped}
-use Rattle.explore.specs.Buffers.{Buffers, buffers}
+use Rattle.explore.specs.Buffers.{buffers}
 use Rattle.explore.specs.Index.{Known, Added, Entered}
 use Rattle.explore.specs.Turns.{Over}
 

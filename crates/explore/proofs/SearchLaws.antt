@@ -7,13 +7,12 @@ use Prim.Native.Nat.{ℕ, _+_, _*_, _≤_, _<_}
 use native.Mathlib.Omega.{arith}
 use native.Mathlib.Decide.{ℕ-discrete}
 use lib.ListN.{length, set, drop, getD}
-use lib.IntN.{ℤ, pos}
 use lib.Seq.{getD-set-same, getD-set-other, drop-set-lt, drop-drop}
 use Rattle.automaton.specs.Priced.{Priced}
 use Rattle.automaton.specs.Walks.{Reachable}
 use Rattle.automaton.proofs.Walks.{reach-start, reach-step}
-use Rattle.walks.specs.Walk.{at, atℤ}
-use Rattle.contract.specs.Explored.{ArcOf, Explored, Overfull}
+use Rattle.walks.specs.Walk.{at}
+use Rattle.contract.specs.Explored.{ArcOf, Explored}
 use Rattle.explore.specs.Buffers.{Buffers, buffers, found, LongEnough}
 use Rattle.explore.specs.Index.{Index}
 use Rattle.explore.specs.Answer.{SearchTree, BySource, Rest, Filled, IsStep, Stopped}

@@ -5,21 +5,20 @@ use mathlib.Core.List.{List}
 use mathlib.Core.Option.{Option, none, some}
 use Prim.Native.Nat.{ℕ, _+_, _*_, _≤_, _<_}
 use native.Mathlib.Omega.{arith}
-use native.Mathlib.Decide.{ℕ-discrete}
-use lib.ListN.{length, set, drop}
-use lib.IntN.{ℤ, pos}
+use lib.ListN.{drop}
+use lib.IntN.{pos}
 use Rattle.automaton.specs.Priced.{Priced}
 use Rattle.automaton.specs.Walks.{Reachable}
 use Rattle.automaton.proofs.Walks.{reach-step}
-use Rattle.walks.specs.Walk.{at, atℤ}
+use Rattle.walks.specs.Walk.{at}
 use Rattle.contract.specs.Explored.{ArcOf}
 use Rattle.region.specs.Step.{answered}
 use Rattle.region.specs.declared.Stepped.{Stepped}
 use Rattle.explore.specs.Buffers.{Buffers, found, LongEnough}
 use Rattle.explore.specs.Index.{Index, Known, Added}
-use Rattle.explore.specs.Turns.{Pushed, Skipped, Old, New, Over}
-use Rattle.explore.specs.Answer.{SearchTree, BySource, Rest, IsStep, Stopped}
-use Rattle.explore.proofs.SearchLaws.{Searched, up-to, kept, there, beyond, set-rest, next-turn, skip, stop}
+use Rattle.explore.specs.Turns.{Pushed}
+use Rattle.explore.specs.Answer.{SearchTree, Rest, IsStep}
+use Rattle.explore.proofs.SearchLaws.{Searched, up-to, kept, there, beyond, set-rest, next-turn}
 
 -- where a step leads, as it is answered
 abbrev pub led : Stepped → Priced ℕ

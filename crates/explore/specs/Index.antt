@@ -2,7 +2,7 @@
 use mathlib.Core.Path.{_≡_}
 use mathlib.Core.List.{List}
 use Prim.Native.Nat.{ℕ, _+_, _≤_, _<_}
-use lib.ListN.{length, set, drop}
+use lib.ListN.{set, drop}
 use Rattle.walks.specs.Walk.{at}
 
 -- the first n of K rise

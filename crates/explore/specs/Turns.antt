@@ -6,7 +6,7 @@ use lib.ListN.{set}
 use Rattle.walks.specs.Walk.{at}
 use Rattle.region.specs.declared.Stepped.{Stepped}
 use Rattle.explore.specs.Buffers.{Buffers}
-use Rattle.explore.specs.Index.{Index, Known, Added}
+use Rattle.explore.specs.Index.{Known, Added}
 use Rattle.explore.specs.declared.turns.Turn.{Turn}
 use Rattle.explore.specs.declared.turns.Turn.the-variants.{Full, Go}
 

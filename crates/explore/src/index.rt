@@ -1,6 +1,5 @@
 // The nodes found so far, and a sorted index of their numbers.
-ghost use mathlib.Core.Path.{_≡_};
-ghost use Prim.Native.Nat.{ℕ, _+_, _<_, _≤_};
+ghost use Prim.Native.Nat.{_+_, _<_, _≤_};
 ghost use lib.ListN.{length};
 ghost use Rattle.explore.specs.Index.{Rising, Place, Inserted, Index, Entered};
 

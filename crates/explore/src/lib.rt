@@ -1,7 +1,6 @@
 // The nodes that are reachable on a decoded sheet, in order of discovery, and all steps between them as the arcs of a graph.
 ghost use mathlib.Core.Path.{_≡_};
 ghost use mathlib.Core.Bool.{_&&_};
-ghost use Prim.Native.Nat.{ℕ};
 ghost use lib.Dec.{leb};
 ghost use Rattle.nodes.specs.Numbers.{firstLayout, stepBy, startNumber};
 ghost use Rattle.nodes.specs.Decoded.{decodedMeaning};

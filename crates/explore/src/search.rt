@@ -1,5 +1,4 @@
 // The search: turn by turn, each code at each node found.
-ghost use mathlib.Core.Path.{_≡_};
 ghost use Rattle.nodes.specs.Numbers.{firstLayout, stepBy, startNumber};
 ghost use Rattle.nodes.specs.Decoded.{decodedMeaning};
 ghost use Rattle.explore.specs.Buffers.{buffers, LongEnough};

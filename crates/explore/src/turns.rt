@@ -1,10 +1,10 @@
 // One step of the search: the step with one code at one node.
 ghost use mathlib.Core.Path.{_≡_};
-ghost use Prim.Native.Nat.{ℕ, _+_, _<_, _≤_};
+ghost use Prim.Native.Nat.{_+_, _<_, _≤_};
 ghost use lib.ListN.{length, set};
 ghost use Rattle.explore.specs.Buffers.{buffers, LongEnough};
 ghost use Rattle.explore.specs.Index.{Index};
-ghost use Rattle.explore.specs.Turns.{Pushed, Turned};
+ghost use Rattle.explore.specs.Turns.{Turned};
 use region::Stepped;
 
 // No room for one more node; or the nodes and the arcs found so far.

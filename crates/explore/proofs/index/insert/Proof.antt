@@ -1,11 +1,5 @@
 -- From i on, all has moved up.
-use mathlib.Core.Path.{_≡_, refl, sym, ap, subst, _∙_}
-use Prim.Native.Nat.{ℕ, _+_, _-_, _≤_, _<_}
-use native.Mathlib.Omega.{arith}
 use borrow.Author.Needs.{needs}
-use denote.Ref.{now}
-use lib.ListN.{length, set, length-set}
-use Rattle.explore.specs.Index.{Inserted}
 use Rattle.explore.proofs.IndexLaws.{Shifted, shift-start, shift-one, shift-end}
 use Rattle.explore.proofs.index.insert.Statement.{statement}
 use Rattle.explore.proofs.index.insert.Tie as tie

@@ -1,11 +1,7 @@
 -- All before low is below x, all from high on is not.
-use mathlib.Core.Path.{_≡_, refl, sym, ap, subst, _∙_}
-use Prim.Native.Nat.{ℕ, _+_, _-_, _/_, _≤_, _<_}
+use Prim.Native.Nat.{_-_}
 use native.Mathlib.Omega.{arith}
 use borrow.Author.Needs.{needs}
-use denote.Ref.{now}
-use lib.ListN.{length}
-use Rattle.explore.specs.Index.{Rising, Place}
 use Rattle.explore.proofs.IndexLaws.{Bracket, bracket-start, bracket-up, bracket-down, bracket-end}
 use Rattle.explore.proofs.index.place.Statement.{statement}
 use Rattle.explore.proofs.index.place.Tie as tie

@@ -9,7 +9,6 @@ use lib.ListN.{set}
 use mir.Syntax.{w16}
 use mir.Val.{toZ, ofZ}
 use mir.ValLaws.{toZ-ofZ}
-use borrow.Author.Needs.{sfits-of}
 use Rattle.explore.proofs.EnterLaws.{small, old, new, over}
 use borrow.Author.Needs.{needs}
 use Rattle.explore.proofs.turns.take_turn.Statement.{statement}
