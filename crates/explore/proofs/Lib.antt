@@ -4,3 +4,4 @@ pub mod EnterLaws
 pub mod SearchLaws
 pub mod TurnLaws
 pub mod AnswerLaws
+pub mod HandLaws

@@ -24,7 +24,9 @@ fn low(x: usize) -> u16
 fn join(from: &mut [u16], to: &mut [u16], code: &mut [u16], m: usize, i: usize, j: usize, k: usize)
     requires { ⌜ m < length (now from) ⌝ ∗ ⌜ m < length (now to) ⌝ ∗ ⌜ m < length (now code) ⌝ }
     requires { ⌜ i < 65536 ⌝ ∗ ⌜ j < 65536 ⌝ ∗ ⌜ k < 65536 ⌝ }
-    ensures { λ _. ⌜ now (from .exit) ≡ set (now (from .entry)) m i ⌝ ∗ ⌜ now (to .exit) ≡ set (now (to .entry)) m j ⌝ ∗ ⌜ now (code .exit) ≡ set (now (code .entry)) m k ⌝ }
+    ensures { λ _. ⌜ now (from .exit) ≡ set (now (from .entry)) m i ⌝ ∗
+        ⌜ now (to .exit) ≡ set (now (to .entry)) m j ⌝ ∗
+        ⌜ now (code .exit) ≡ set (now (code .entry)) m k ⌝ }
 {
     from[m] = low(i);
     to[m] = low(j);
@@ -60,8 +62,10 @@ pub(crate) fn take_turn(
     requires { ⌜ LongEnough (buffers (now nodes) (now sorted) (now order) (now tree) (now from) (now to) (now code) (now cost) (now reward)) ⌝ }
     requires { ⌜ Index (now nodes) (now sorted) (now order) n ⌝ ∗ ⌜ n ≤ 2048 ⌝ ∗ ⌜ m < 69632 ⌝ ∗ ⌜ i < n ⌝ ∗ ⌜ k < 34 ⌝ }
     ensures { λ r. ⌜ Turned
-        (buffers (now (nodes .entry)) (now (sorted .entry)) (now (order .entry)) (now (tree .entry)) (now (from .entry)) (now (to .entry)) (now (code .entry)) (now (cost .entry)) (now (reward .entry)))
-        (buffers (now (nodes .exit)) (now (sorted .exit)) (now (order .exit)) (now (tree .exit)) (now (from .exit)) (now (to .exit)) (now (code .exit)) (now (cost .exit)) (now (reward .exit)))
+        (buffers (now (nodes .entry)) (now (sorted .entry)) (now (order .entry)) (now (tree .entry))
+        (now (from .entry)) (now (to .entry)) (now (code .entry)) (now (cost .entry)) (now (reward .entry)))
+        (buffers (now (nodes .exit)) (now (sorted .exit)) (now (order .exit)) (now (tree .exit))
+        (now (from .exit)) (now (to .exit)) (now (code .exit)) (now (cost .exit)) (now (reward .exit)))
         n m i k s r ⌝ }
 {
     if s.refusal != 0 {
