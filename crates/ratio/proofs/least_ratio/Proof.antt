@@ -40,20 +40,23 @@ slice-aggregate-beyond c = search needs
 
 beyond-requires : tie.Need-beyond-requires
 beyond-requires c κs =
+    let s = c .before .before .before .before .before .before .before .before .before .before .before .before .before .before .before .before .before in
     let r = c .before .before .before .before .before .before .before .before .negative-cycle in
-    let g = found (now (c .before .before .before .before .before .before .before .before .before .before .before .before .before .before .before .before .before .args .from)) (now (c .before .before .before .before .before .before .before .before .before .before .before .before .before .before .before .before .before .args .to)) (now (c .before .before .before .before .before .before .before .before .before .before .before .before .before .before .before .before .before .args .cost)) (now (c .before .before .before .before .before .before .before .before .before .before .before .before .before .before .before .before .before .args .reward)) (c .before .before .before .before .before .before .before .before .before .before .before .before .before .before .before .before .before .args .nodes) 0 (omega arith) (replicate 2048 (pos 0)) (r .last .1 .1 .1 .1 .1 .1 .0) (replicate 2048 0) (r .last .1 .1 .1 .1 .1 .1 .1 .0) (r .result) (r .ensures) (c .before .before .before .before .found .given .0 .0) (c .before .before .before .before .found .given .1) in
-    (record { graph = g .0; potential-room = omega arith; cycle-room = omega arith }, first-hand (now (c .before .before .before .before .before .before .before .before .before .before .before .before .before .before .before .before .before .args .from)) (now (c .before .before .before .before .before .before .before .before .before .before .before .before .before .before .before .before .before .args .to)) (now (c .before .before .before .before .before .before .before .before .before .before .before .before .before .before .before .before .before .args .cost)) (now (c .before .before .before .before .before .before .before .before .before .before .before .before .before .before .before .before .before .args .reward)) (c .before .before .before .before .before .before .before .before .before .before .before .before .before .before .before .before .before .args .nodes) (replicate 2048 (pos 0)) (r .last .1 .1 .1 .1 .1 .1 .0) (replicate 2048 0) (r .last .1 .1 .1 .1 .1 .1 .1 .0) (c .before .before .before .before .found .given .0 .0) (r .kept .1 .1 .1 .1 .1 .1 .1 .0) (room {A = ℕ} 0 (g .0 .nodes)) (g .1))
+    let g = found (now (s .args .from)) (now (s .args .to)) (now (s .args .cost)) (now (s .args .reward)) (s .args .nodes) 0 (omega arith) (replicate 2048 (pos 0)) (r .last .1 .1 .1 .1 .1 .1 .0) (replicate 2048 0) (r .last .1 .1 .1 .1 .1 .1 .1 .0) (r .result) (r .ensures) (c .before .before .before .before .found .given .0 .0) (c .before .before .before .before .found .given .1) in
+    (record { graph = g .0; potential-room = omega arith; cycle-room = omega arith }, first-hand (now (s .args .from)) (now (s .args .to)) (now (s .args .cost)) (now (s .args .reward)) (s .args .nodes) (replicate 2048 (pos 0)) (r .last .1 .1 .1 .1 .1 .1 .0) (replicate 2048 0) (r .last .1 .1 .1 .1 .1 .1 .1 .0) (c .before .before .before .before .found .given .0 .0) (r .kept .1 .1 .1 .1 .1 .1 .1 .0) (room {A = ℕ} 0 (g .0 .nodes)) (g .1))
 
 returns-3 : tie.Need-returns-3
 returns-3 c =
+    let s = c .before .before .before .before .before .before .before .before .before .before .before .before .before in
     let r = c .before .before .before .before .negative-cycle in
-    ((λ w. no-graph (now (c .before .before .before .before .before .before .before .before .before .before .before .before .before .args .from)) (now (c .before .before .before .before .before .before .before .before .before .before .before .before .before .args .to)) (now (c .before .before .before .before .before .before .before .before .before .before .before .before .before .args .cost)) (now (c .before .before .before .before .before .before .before .before .before .before .before .before .before .args .reward)) (c .before .before .before .before .before .before .before .before .before .before .before .before .before .args .nodes) 0 (omega arith) (replicate 2048 (pos 0)) (r .last .1 .1 .1 .1 .1 .1 .0) (replicate 2048 0) (r .last .1 .1 .1 .1 .1 .1 .1 .0) (r .result) (r .ensures) (room (pos 0) (w .graph .nodes)) (room {A = ℕ} 0 (w .graph .nodes)) (c .enum-told .given .1) (w .graph)), record { potentials = refl; cycles = refl })
+    ((λ w. no-graph (now (s .args .from)) (now (s .args .to)) (now (s .args .cost)) (now (s .args .reward)) (s .args .nodes) 0 (omega arith) (replicate 2048 (pos 0)) (r .last .1 .1 .1 .1 .1 .1 .0) (replicate 2048 0) (r .last .1 .1 .1 .1 .1 .1 .1 .0) (r .result) (r .ensures) (room (pos 0) (w .graph .nodes)) (room {A = ℕ} 0 (w .graph .nodes)) (c .enum-told .given .1) (w .graph)), record { potentials = refl; cycles = refl })
 
 returns-4 : tie.Need-returns-4
 returns-4 c =
+    let s = c .before .before .before .before .before .before .before .before .before .before .before .before .before in
     let r = c .before .before .before .before .negative-cycle in
-    let g = none (now (c .before .before .before .before .before .before .before .before .before .before .before .before .before .args .from)) (now (c .before .before .before .before .before .before .before .before .before .before .before .before .before .args .to)) (now (c .before .before .before .before .before .before .before .before .before .before .before .before .before .args .cost)) (now (c .before .before .before .before .before .before .before .before .before .before .before .before .before .args .reward)) (c .before .before .before .before .before .before .before .before .before .before .before .before .before .args .nodes) 0 (omega arith) (replicate 2048 (pos 0)) (r .last .1 .1 .1 .1 .1 .1 .0) (replicate 2048 0) (r .last .1 .1 .1 .1 .1 .1 .1 .0) (r .result) (r .ensures) (c .enum-told2 .given .1) in
-    (record { graph = g .0; potential-room = omega arith; cycle-room = omega arith }, acyclic (now (c .before .before .before .before .before .before .before .before .before .before .before .before .before .args .from)) (now (c .before .before .before .before .before .before .before .before .before .before .before .before .before .args .to)) _ (now (c .before .before .before .before .before .before .before .before .before .before .before .before .before .args .cost)) (now (c .before .before .before .before .before .before .before .before .before .before .before .before .before .args .reward)) (g .1 .none), record { potentials = refl; cycles = refl })
+    let g = none (now (s .args .from)) (now (s .args .to)) (now (s .args .cost)) (now (s .args .reward)) (s .args .nodes) 0 (omega arith) (replicate 2048 (pos 0)) (r .last .1 .1 .1 .1 .1 .1 .0) (replicate 2048 0) (r .last .1 .1 .1 .1 .1 .1 .1 .0) (r .result) (r .ensures) (c .enum-told2 .given .1) in
+    (record { graph = g .0; potential-room = omega arith; cycle-room = omega arith }, acyclic (now (s .args .from)) (now (s .args .to)) _ (now (s .args .cost)) (now (s .args .reward)) (g .1 .none), record { potentials = refl; cycles = refl })
 
 same-length : tie.Need-same-length
 same-length c = c .before .before .before .before .beyond .kept .1 .1 .1 .1 .1 .0

@@ -30,7 +30,9 @@ slice-read-result : tie.Need-slice-read-result
 slice-read-result c = search needs
 
 cast-result : tie.Need-cast-result
-cast-result c = omega (arith, c .before .before .before .before .before .before .before .before .before .before .pre .0 .below (c .before .before .before .before .place .result) (c .before .before .before .if1 .taken), c .before .before .before .before .before .before .before .before .before .before .pre .1 .0)
+cast-result c =
+    let s = c .before .before .before .before .before .before .before .before .before .before in
+    omega (arith, s .pre .0 .below (c .before .before .before .before .place .result) (c .before .before .before .if1 .taken), s .pre .1 .0)
 
 same-length : tie.Need-same-length
 same-length c = search needs

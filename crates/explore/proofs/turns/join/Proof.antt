@@ -48,7 +48,9 @@ same-length-3 : tie.Need-same-length-3
 same-length-3 c = search needs
 
 returns : tie.Need-returns
-returns c = let a = c .before .before .before .before .before .before .args in
+returns c =
+    let s = c .before .before .before .before .before .before in
+    let a = s .args in
     (same (now (a .from)) (a .m) _ _ (c .before .before .low .ensures), (same (now (a .to)) (a .m) _ _ (c .before .low2 .ensures), same (now (a .code)) (a .m) _ _ (c .low3 .ensures)))
 
 pub join-spec : {M : Type 1} → statement M

@@ -20,7 +20,8 @@ node-requires c κs = search needs
 
 returns-2 : tie.Need-returns-2
 returns-2 c =
-    let n = c .before .before .before .before .before .args .nodes in
+    let s = c .before .before .before .before .before in
+    let n = s .args .nodes in
     record {
       yes = λ e. record { arc = omega arith; source = omega (arith, c .node .ensures, ltb-true (c .node .result) n e) };
       no = λ e a. omega (arith, c .node .ensures, ltb-false (c .node .result) n e, a .source);

@@ -34,8 +34,9 @@ loop-less c = omega arith
 
 loop-again : tie.Need-loop-again Inv-loop μ-loop
 loop-again c =
+    let s = c .before .before .before .before .before .before in
     let l = c .before .before .before .loop in
-    (omega arith, all-more (λ j. CycleArc (now (c .before .before .before .before .before .before .args .from)) (now (c .before .before .before .before .before .before .args .cycle)) (c .before .before .before .before .before .before .args .nodes) j) (l .i) (l .inv .1) (c .before .cycle-arc .ensures .yes (not-false (c .before .cycle-arc .result) (c .if1 .left))))
+    (omega arith, all-more (λ j. CycleArc (now (s .args .from)) (now (s .args .cycle)) (s .args .nodes) j) (l .i) (l .inv .1) (c .before .cycle-arc .ensures .yes (not-false (c .before .cycle-arc .result) (c .if1 .left))))
 
 returns-2 : tie.Need-returns-2 Inv-loop μ-loop
 returns-2 c =

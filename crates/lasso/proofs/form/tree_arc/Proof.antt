@@ -27,7 +27,8 @@ node-requires-2 c κs = search needs
 
 returns-3 : tie.Need-returns-3
 returns-3 c =
-    let v = c .before .before .before .before .before .before .before .before .args .v in
+    let s = c .before .before .before .before .before .before .before .before in
+    let v = s .args .v in
     record {
       yes = λ e. record { arc = omega arith; ends = sym (c .before .before .node .ensures) ∙ c .before .if2 .left; earlier = omega (arith, c .node2 .ensures, ltb-true (c .node2 .result) v e) };
       no = λ e a. omega (arith, c .node2 .ensures, ltb-false (c .node2 .result) v e, a .earlier);

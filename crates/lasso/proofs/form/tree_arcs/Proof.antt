@@ -21,7 +21,9 @@ loop-holds : tie.Need-loop-holds Inv-loop μ-loop
 loop-holds c = (omega arith, inr refl, λ u h k. absurd (omega arith))
 
 tree-arc-requires : tie.Need-tree-arc-requires Inv-loop μ-loop
-tree-arc-requires c κs = (omega (arith, c .before .before .before .before .before .pre .0), c .before .before .before .before .before .pre .1)
+tree-arc-requires c κs =
+    let s = c .before .before .before .before .before in
+    (omega (arith, s .pre .0), s .pre .1)
 
 returns : tie.Need-returns Inv-loop μ-loop
 returns c =
@@ -36,10 +38,11 @@ loop-less c = omega (arith, c .before .before .loop-test .taken)
 
 loop-again : tie.Need-loop-again Inv-loop μ-loop
 loop-again c =
+    let s = c .before .before .before .before .before .before .before in
     let l = c .before .before .before .loop in (
       omega arith,
       inl (omega (arith, c .before .before .loop-test .taken)),
-      one-more (λ u. TreeArc (now (c .before .before .before .before .before .before .before .args .from)) (now (c .before .before .before .before .before .before .before .args .to)) (now (c .before .before .before .before .before .before .before .args .tree)) u) (l .v) (l .inv .2) (c .before .tree-arc .ensures .yes (not-false (c .before .tree-arc .result) (c .if1 .left))),
+      one-more (λ u. TreeArc (now (s .args .from)) (now (s .args .to)) (now (s .args .tree)) u) (l .v) (l .inv .2) (c .before .tree-arc .ensures .yes (not-false (c .before .tree-arc .result) (c .if1 .left))),
     )
 
 returns-2 : tie.Need-returns-2 Inv-loop μ-loop

@@ -30,7 +30,7 @@ loop-holds c =
         (
           c .node .ensures,
           λ j h. let e : j ≡ 0 = omega arith in
-              omega (arith, c .node .ensures, ap (λ (i : ℕ). at (now (c .before .before .before .before .args .from)) (at (now (c .before .before .before .before .args .cycle)) i)) e),
+              omega (arith, c .node .ensures, ap (λ (i : ℕ). at (now (s .args .from)) (at (now (s .args .cycle)) i)) e),
         ),
       ),
     )
@@ -52,6 +52,7 @@ loop-less c = omega arith
 
 loop-again : tie.Need-loop-again Inv-loop μ-loop
 loop-again c =
+    let s = c .before .before .before .before .before .before .before .before .before in
     let l = c .before .before .before .before .loop in
     let n = c .before .node2 in
     let v = l .inv in
@@ -61,8 +62,8 @@ loop-again c =
       (
         omega arith,
         (
-          w .2 ∙ n .ensures ∙ sym (ap (λ (j : ℕ). at (now (c .before .before .before .before .before .before .before .before .before .args .from)) (at (now (c .before .before .before .before .before .before .before .before .before .args .cycle)) j)) (w .1)),
-          least-more (now (c .before .before .before .before .before .before .before .before .before .args .from)) (now (c .before .before .before .before .before .before .before .before .before .args .cycle)) (l .i) (l .best) (n .result) (c .if1 .best) (v .1 .1 .1) (n .ensures) (omega (arith, w .0, w .2)) (omega (arith, w .2)),
+          w .2 ∙ n .ensures ∙ sym (ap (λ (j : ℕ). at (now (s .args .from)) (at (now (s .args .cycle)) j)) (w .1)),
+          least-more (now (s .args .from)) (now (s .args .cycle)) (l .i) (l .best) (n .result) (c .if1 .best) (v .1 .1 .1) (n .ensures) (omega (arith, w .0, w .2)) (omega (arith, w .2)),
         ),
       ),
     ))
@@ -71,8 +72,8 @@ loop-again c =
       (
         omega arith,
         (
-          w .2 ∙ v .1 .1 .0 ∙ sym (ap (λ (j : ℕ). at (now (c .before .before .before .before .before .before .before .before .before .args .from)) (at (now (c .before .before .before .before .before .before .before .before .before .args .cycle)) j)) (w .1)),
-          least-more (now (c .before .before .before .before .before .before .before .before .before .args .from)) (now (c .before .before .before .before .before .before .before .before .before .args .cycle)) (l .i) (l .best) (n .result) (c .if1 .best) (v .1 .1 .1) (n .ensures) (omega (arith, w .2)) (omega (arith, w .0, w .2)),
+          w .2 ∙ v .1 .1 .0 ∙ sym (ap (λ (j : ℕ). at (now (s .args .from)) (at (now (s .args .cycle)) j)) (w .1)),
+          least-more (now (s .args .from)) (now (s .args .cycle)) (l .i) (l .best) (n .result) (c .if1 .best) (v .1 .1 .1) (n .ensures) (omega (arith, w .2)) (omega (arith, w .0, w .2)),
         ),
       ),
     ))

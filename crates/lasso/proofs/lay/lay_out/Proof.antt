@@ -12,7 +12,9 @@ use Rattle.lasso.proofs.lay.lay_out.Statement.{statement}
 use Rattle.lasso.proofs.lay.lay_out.Tie as tie
 
 first-requires : tie.Need-first-requires
-first-requires c κs = (c .before .before .before .before .before .pre .some, (c .before .before .before .before .before .pre .cycle-room, λ i h. c .before .before .before .before .before .pre .cycle-arcs i h .arc))
+first-requires c κs =
+    let s = c .before .before .before .before .before in
+    (s .pre .some, (s .pre .cycle-room, λ i h. s .pre .cycle-arcs i h .arc))
 
 slice-aggregate-stem : tie.Need-slice-aggregate-stem
 slice-aggregate-stem c = search needs
@@ -27,7 +29,9 @@ node-requires : tie.Need-node-requires
 node-requires c κs = c .before .before .before .before .before .before .before .before .pre .cycle-arcs (c .before .before .first .result) (c .before .before .first .ensures .0) .arc
 
 stem-requires : tie.Need-stem-requires
-stem-requires c κs = (tree-of (now (c .before .before .before .before .before .before .before .before .before .args .from)) (now (c .before .before .before .before .before .before .before .before .before .args .to)) (now (c .before .before .before .before .before .before .before .before .before .args .tree)) (now (c .before .before .before .before .before .before .before .before .before .args .cycle)) _ _ _ (c .before .before .before .before .before .before .before .before .before .pre), (rw (c .node .ensures) (c .before .before .before .before .before .before .before .before .before .pre .cycle-arcs (c .before .before .before .first .result) (c .before .before .before .first .ensures .0) .source), (c .before .before .before .before .before .before .before .before .before .pre .tree-room, omega (arith, c .before .before .before .before .before .before .before .before .before .pre .few))))
+stem-requires c κs =
+    let s = c .before .before .before .before .before .before .before .before .before in
+    (tree-of (now (s .args .from)) (now (s .args .to)) (now (s .args .tree)) (now (s .args .cycle)) _ _ _ (s .pre), (rw (c .node .ensures) (s .pre .cycle-arcs (c .before .before .before .first .result) (c .before .before .before .first .ensures .0) .source), (s .pre .tree-room, omega (arith, s .pre .few))))
 
 sub-s : tie.Need-sub-s
 sub-s c = search needs
@@ -82,10 +86,10 @@ returns c =
     let s = c .before .before .before .before .before .before .before .before .before .before .before .before .before .before .before .before .before .before .before .before .before .before .before .before .before .before in
     let f = c .before .before .before .before .before .before .before .before .before .before .before .before .before .before .before .before .before .before .before .before .first in
     let t = c .before .before .before .before .before .before .before .before .before .before .before .before .before .before .before .before .stem in
-    laid-out (now (c .before .before .before .before .before .before .before .before .before .before .before .before .before .before .before .before .before .before .before .before .before .before .before .before .before .before .args .from)) (now (c .before .before .before .before .before .before .before .before .before .before .before .before .before .before .before .before .before .before .before .before .before .before .before .before .before .before .args .to)) (now (c .before .before .before .before .before .before .before .before .before .before .before .before .before .before .before .before .before .before .before .before .before .before .before .before .before .before .args .cycle)) (t .last .1 .1 .1 .0) (now (s .args .arcs)) (c .before .before .before .before .before .before .before .before .before .before .before .copy .last .1 .1 .0) (c .before .before .before .before .before .before .copy2 .last .1 .1 .0) (c .before .before .copy3 .last .1 .1 .0)
+    laid-out (now (s .args .from)) (now (s .args .to)) (now (s .args .cycle)) (t .last .1 .1 .1 .0) (now (s .args .arcs)) (c .before .before .before .before .before .before .before .before .before .before .before .copy .last .1 .1 .0) (c .before .before .before .before .before .before .copy2 .last .1 .1 .0) (c .before .before .copy3 .last .1 .1 .0)
     (s .args .nodes) (s .args .k) (t .result) (f .result) (2048 - t .result) (t .kept .1 .1 .1 .0) (t .ensures .0) (omega (arith, t .ensures .1 .0)) refl
     (f .ensures .0) (s .pre .cycle-room) (s .pre .arcs-room) (f .ensures .1)
-    (subst (λ (h : ℕ). Stem (now (c .before .before .before .before .before .before .before .before .before .before .before .before .before .before .before .before .before .before .before .before .before .before .before .before .before .before .args .from)) (now (c .before .before .before .before .before .before .before .before .before .before .before .before .before .before .before .before .before .before .before .before .before .before .before .before .before .before .args .to)) (length (now (c .before .before .before .before .before .before .before .before .before .before .before .before .before .before .before .before .before .before .before .before .before .before .before .before .before .before .args .from))) 0 (slice (t .result) (length (t .last .1 .1 .1 .0)) (t .last .1 .1 .1 .0)) h) (c .before .before .before .before .before .before .before .before .before .before .before .before .before .before .before .before .before .node .ensures) (t .ensures .1 .1 (tree-of (now (c .before .before .before .before .before .before .before .before .before .before .before .before .before .before .before .before .before .before .before .before .before .before .before .before .before .before .args .from)) (now (c .before .before .before .before .before .before .before .before .before .before .before .before .before .before .before .before .before .before .before .before .before .before .before .before .before .before .args .to)) (now (c .before .before .before .before .before .before .before .before .before .before .before .before .before .before .before .before .before .before .before .before .before .before .before .before .before .before .args .tree)) (now (c .before .before .before .before .before .before .before .before .before .before .before .before .before .before .before .before .before .before .before .before .before .before .before .before .before .before .args .cycle)) _ _ _ (s .pre))))
+    (subst (λ (h : ℕ). Stem (now (s .args .from)) (now (s .args .to)) (length (now (s .args .from))) 0 (slice (t .result) (length (t .last .1 .1 .1 .0)) (t .last .1 .1 .1 .0)) h) (c .before .before .before .before .before .before .before .before .before .before .before .before .before .before .before .before .before .node .ensures) (t .ensures .1 .1 (tree-of (now (s .args .from)) (now (s .args .to)) (now (s .args .tree)) (now (s .args .cycle)) _ _ _ (s .pre))))
     (c .before .before .before .before .before .before .before .before .before .before .before .copy .ensures) (c .before .before .before .before .before .before .copy2 .ensures) (c .before .before .copy3 .ensures)
 
 pub lay-out-spec : {M : Type 1} → statement M

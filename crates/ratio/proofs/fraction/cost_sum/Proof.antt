@@ -36,7 +36,9 @@ cost-of-requires : tie.Need-cost-of-requires Inv-loop μ-loop
 cost-of-requires c κs = c .before .before .before .before .pre .1 .1 (c .before .before .loop .i - 1) (omega (arith, c .before .loop-test .taken, c .before .before .loop .inv .0))
 
 add-requires : tie.Need-add-requires Inv-loop μ-loop
-add-requires c κs = sum-fits (toZ w64 (c .before .before .before .loop .z)) (c .cost-of .result) (c .before .before .before .before .before .args .k - c .before .before .before .loop .i) (omega (arith, c .before .before .before .before .before .pre .1 .0)) (c .before .before .before .loop .inv .1 .1) (c .cost-of .ensures .1)
+add-requires c κs =
+    let s = c .before .before .before .before .before in
+    sum-fits (toZ w64 (c .before .before .before .loop .z)) (c .cost-of .result) (s .args .k - c .before .before .before .loop .i) (omega (arith, s .pre .1 .0)) (c .before .before .before .loop .inv .1 .1) (c .cost-of .ensures .1)
 
 loop-less : tie.Need-loop-less Inv-loop μ-loop
 loop-less c = omega arith
@@ -53,7 +55,7 @@ loop-again c =
     let t = c .before .before .before .loop-test .taken in (
       omega (arith, l .inv .0),
       (
-        e ∙ ap₂ _+ℤ_ (c .before .cost-of .ensures .0) (l .inv .1 .0) ∙ sym (sum-more (now (c .before .before .before .before .before .before .args .arcs)) (l .i) (s .args .k) (omega arith) (l .inv .0) (s .pre .0) (atℤ (now (c .before .before .before .before .before .before .args .cost)))),
+        e ∙ ap₂ _+ℤ_ (c .before .cost-of .ensures .0) (l .inv .1 .0) ∙ sym (sum-more (now (s .args .arcs)) (l .i) (s .args .k) (omega arith) (l .inv .0) (s .pre .0) (atℤ (now (s .args .cost)))),
         rw e (omega (arith, b)),
       ),
     )

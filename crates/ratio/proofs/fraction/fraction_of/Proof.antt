@@ -25,7 +25,9 @@ reward-sum-requires : tie.Need-reward-sum-requires
 reward-sum-requires c κs = search needs
 
 reduce-requires : tie.Need-reduce-requires
-reduce-requires c κs = (rw (back (c .before .cost-sum .ensures) (sum-fits c)) (c .before .before .before .before .pre .cost-small), rw (c .reward-sum .ensures) (c .before .before .before .before .pre .earns))
+reduce-requires c κs =
+    let s = c .before .before .before .before in
+    (rw (back (c .before .cost-sum .ensures) (sum-fits c)) (s .pre .cost-small), rw (c .reward-sum .ensures) (s .pre .earns))
 
 returns : tie.Need-returns
 returns c =

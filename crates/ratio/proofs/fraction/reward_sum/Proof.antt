@@ -24,7 +24,9 @@ sub-i : tie.Need-sub-i Inv-loop μ-loop
 sub-i c = omega arith
 
 mul-reward-of : tie.Need-mul-reward-of Inv-loop μ-loop
-mul-reward-of c = omega (arith, c .before .before .before .before .pre .0, c .before .before .before .before .good .1 .0 .1, c .before .loop .inv .0)
+mul-reward-of c =
+    let s = c .before .before .before .before in
+    omega (arith, s .pre .0, s .good .1 .0 .1, c .before .loop .inv .0)
 
 shared-slice-read-reward-of : tie.Need-shared-slice-read-reward-of Inv-loop μ-loop
 shared-slice-read-reward-of c = omega (arith, c .before .before .before .before .before .pre .0, c .before .before .loop .inv .0, c .before .loop-test .taken)
@@ -45,16 +47,17 @@ loop-again c =
     let t = c .before .before .loop-test .taken in (
       omega (arith, l .inv .0),
       (
-        ap₂ _+_ (c .reward-of .ensures .0) (l .inv .1 .0) ∙ sym (total-more (now (c .before .before .before .before .before .before .args .arcs)) (l .i) (s .args .k) (omega arith) (l .inv .0) (s .pre .0) (at (now (c .before .before .before .before .before .before .args .reward)))),
+        ap₂ _+_ (c .reward-of .ensures .0) (l .inv .1 .0) ∙ sym (total-more (now (s .args .arcs)) (l .i) (s .args .k) (omega arith) (l .inv .0) (s .pre .0) (at (now (s .args .reward)))),
         omega (arith, l .inv .1 .1, l .inv .0, c .reward-of .ensures .1),
       ),
     )
 
 returns : tie.Need-returns Inv-loop μ-loop
 returns c =
+    let s = c .before .before .before .before in
     let l = c .before .loop in
     let z : l .i ≡ 0 = omega arith in
-    l .inv .1 .0 ∙ ap (λ (n : ℕ). total (at (now (c .before .before .before .before .args .reward))) (slice n (c .before .before .before .before .args .k) (now (c .before .before .before .before .args .arcs)))) z
+    l .inv .1 .0 ∙ ap (λ (n : ℕ). total (at (now (s .args .reward))) (slice n (s .args .k) (now (s .args .arcs)))) z
 
 pub reward-sum-spec : {M : Type 1} → statement M
 reward-sum-spec =

@@ -54,7 +54,9 @@ found-is c = let s = S (R c) in let f = R c .fraction-of .result in
     (toZ-pos w64 (f .q) (omega (arith, q-of (R c)))) (back (neg-is (R c)) (fits-neg (R c))) (c .negative-cycle .ensures)
 
 fraction-of-requires : tie.Need-fraction-of-requires
-fraction-of-requires c κs = summed (now (c .before .before .before .before .before .args .from)) (now (c .before .before .before .before .before .args .to)) (now (c .before .before .before .before .before .args .cost)) (now (c .before .before .before .before .before .args .reward)) (c .before .before .before .before .before .args .nodes) _ _ (c .before .before .before .before .before .pre .0) (now (c .before .before .before .before .before .args .hand)) (c .before .before .before .before .before .args .k) (c .before .before .before .before .before .pre .1)
+fraction-of-requires c κs =
+    let s = c .before .before .before .before .before in
+    summed (now (s .args .from)) (now (s .args .to)) (now (s .args .cost)) (now (s .args .reward)) (s .args .nodes) _ _ (s .pre .0) (now (s .args .hand)) (s .args .k) (s .pre .1)
 
 cast-t17 : tie.Need-cast-t17
 cast-t17 c = small _ 20480001 (omega (arith, q-of (c .before))) (omega arith)

@@ -27,21 +27,25 @@ loop-holds : tie.Need-loop-holds Inv-loop μ-loop
 loop-holds c = (c .before .before .before .before .pre .1, (refl, refl))
 
 search-below-requires : tie.Need-search-below-requires Inv-loop μ-loop
-search-below-requires c κs = (same-ready (now (c .before .before .before .before .before .before .before .args .from)) (now (c .before .before .before .before .before .before .before .args .to)) (now (c .before .before .before .before .before .before .before .args .cost)) (now (c .before .before .before .before .before .before .before .args .reward)) (c .before .before .before .before .before .before .before .args .nodes) (length (now (c .before .before .before .before .before .before .before .args .potential))) (length (now (c .before .before .before .before .before .before .before .args .hand))) (length (c .before .before .loop .potential)) (length (c .before .before .loop .hand)) (ap length (c .before .before .loop .inv .1 .1)) (c .before .before .loop .inv .1 .0) (c .before .before .before .before .before .before .before .pre .0), c .before .before .loop .inv .0)
+search-below-requires c κs =
+    let s = c .before .before .before .before .before .before .before in
+    (same-ready (now (s .args .from)) (now (s .args .to)) (now (s .args .cost)) (now (s .args .reward)) (s .args .nodes) (length (now (s .args .potential))) (length (now (s .args .hand))) (length (c .before .before .loop .potential)) (length (c .before .before .loop .hand)) (ap length (c .before .before .loop .inv .1 .1)) (c .before .before .loop .inv .1 .0) (s .pre .0), c .before .before .loop .inv .0)
 
 enum-known-t : tie.Need-enum-known-t Inv-loop μ-loop
 enum-known-t c = search needs
 
 loop-less : tie.Need-loop-less Inv-loop μ-loop
 loop-less c =
+    let s = c .before .before .before .before .before .before .before .before .before .before .before .before .before .before in
     let r = c .before .before .before .before .before .before .search-below in
-    let b = was-better (now (c .before .before .before .before .before .before .before .before .before .before .before .before .before .before .args .from)) (now (c .before .before .before .before .before .before .before .before .before .before .before .before .before .before .args .to)) (now (c .before .before .before .before .before .before .before .before .before .before .before .before .before .before .args .cost)) (now (c .before .before .before .before .before .before .before .before .before .before .before .before .before .before .args .reward)) (c .before .before .before .before .before .before .before .before .before .before .before .before .before .before .args .nodes) (c .before .before .before .before .before .before .before .before .before .loop .arcs) (c .before .before .before .before .before .before .before .before .before .loop .potential) (r .last .1 .1 .1 .1 .1 .0) (c .before .before .before .before .before .before .before .before .before .loop .hand) (r .last .1 .1 .1 .1 .1 .1 .0) (r .result) (r .ensures) (c .before .t .given .0 .0) (c .before .t .given .1) in
-    falls (now (c .before .before .before .before .before .before .before .before .before .before .before .before .before .before .args .from)) (now (c .before .before .before .before .before .before .before .before .before .before .before .before .before .before .args .to)) (now (c .before .before .before .before .before .before .before .before .before .before .before .before .before .before .args .cost)) (now (c .before .before .before .before .before .before .before .before .before .before .before .before .before .before .args .reward)) (c .before .before .before .before .before .before .before .before .before .before .before .before .before .before .args .nodes) _ _ (c .before .before .before .before .before .before .before .before .before .before .before .before .before .before .pre .0) (c .before .before .before .before .before .before .before .before .before .loop .hand) (c .before .before .before .before .before .before .before .before .before .loop .arcs) (c .before .before .before .before .before .before .before .before .before .loop .inv .0) _ (c .before .t .given .0 .0) (b .in-hand) (b .cheaper)
+    let b = was-better (now (s .args .from)) (now (s .args .to)) (now (s .args .cost)) (now (s .args .reward)) (s .args .nodes) (c .before .before .before .before .before .before .before .before .before .loop .arcs) (c .before .before .before .before .before .before .before .before .before .loop .potential) (r .last .1 .1 .1 .1 .1 .0) (c .before .before .before .before .before .before .before .before .before .loop .hand) (r .last .1 .1 .1 .1 .1 .1 .0) (r .result) (r .ensures) (c .before .t .given .0 .0) (c .before .t .given .1) in
+    falls (now (s .args .from)) (now (s .args .to)) (now (s .args .cost)) (now (s .args .reward)) (s .args .nodes) _ _ (s .pre .0) (c .before .before .before .before .before .before .before .before .before .loop .hand) (c .before .before .before .before .before .before .before .before .before .loop .arcs) (c .before .before .before .before .before .before .before .before .before .loop .inv .0) _ (c .before .t .given .0 .0) (b .in-hand) (b .cheaper)
 
 loop-again : tie.Need-loop-again Inv-loop μ-loop
 loop-again c =
+    let s = c .before .before .before .before .before .before .before .before .before .before .before .before .before .before in
     let r = c .before .before .before .before .before .before .search-below in
-    let b = was-better (now (c .before .before .before .before .before .before .before .before .before .before .before .before .before .before .args .from)) (now (c .before .before .before .before .before .before .before .before .before .before .before .before .before .before .args .to)) (now (c .before .before .before .before .before .before .before .before .before .before .before .before .before .before .args .cost)) (now (c .before .before .before .before .before .before .before .before .before .before .before .before .before .before .args .reward)) (c .before .before .before .before .before .before .before .before .before .before .before .before .before .before .args .nodes) (c .before .before .before .before .before .before .before .before .before .loop .arcs) (c .before .before .before .before .before .before .before .before .before .loop .potential) (r .last .1 .1 .1 .1 .1 .0) (c .before .before .before .before .before .before .before .before .before .loop .hand) (r .last .1 .1 .1 .1 .1 .1 .0) (r .result) (r .ensures) (c .before .t .given .0 .0) (c .before .t .given .1) in
+    let b = was-better (now (s .args .from)) (now (s .args .to)) (now (s .args .cost)) (now (s .args .reward)) (s .args .nodes) (c .before .before .before .before .before .before .before .before .before .loop .arcs) (c .before .before .before .before .before .before .before .before .before .loop .potential) (r .last .1 .1 .1 .1 .1 .0) (c .before .before .before .before .before .before .before .before .before .loop .hand) (r .last .1 .1 .1 .1 .1 .1 .0) (r .result) (r .ensures) (c .before .t .given .0 .0) (c .before .t .given .1) in
     (b .in-hand, (r .kept .1 .1 .1 .1 .1 .1 .0 ∙ c .before .before .before .before .before .before .before .before .before .loop .inv .1 .0, b .kept ∙ c .before .before .before .before .before .before .before .before .before .loop .inv .1 .1))
 
 enum-known-t-2 : tie.Need-enum-known-t-2 Inv-loop μ-loop
@@ -55,11 +59,12 @@ same-length-2 c = c .before .before .before .before .before .before .search-belo
 
 returns : tie.Need-returns Inv-loop μ-loop
 returns c =
+    let s = c .before .before .before .before .before .before .before .before .before .before .before .before .before .before in
     let r = c .before .before .before .before .before .before .search-below in
     let g = c .before .t2 .given in
-    let d = was-done (now (c .before .before .before .before .before .before .before .before .before .before .before .before .before .before .args .from)) (now (c .before .before .before .before .before .before .before .before .before .before .before .before .before .before .args .to)) (now (c .before .before .before .before .before .before .before .before .before .before .before .before .before .before .args .cost)) (now (c .before .before .before .before .before .before .before .before .before .before .before .before .before .before .args .reward)) (c .before .before .before .before .before .before .before .before .before .before .before .before .before .before .args .nodes) (c .before .before .before .before .before .before .before .before .before .loop .arcs) (c .before .before .before .before .before .before .before .before .before .loop .potential) (r .last .1 .1 .1 .1 .1 .0) (c .before .before .before .before .before .before .before .before .before .loop .hand) (r .last .1 .1 .1 .1 .1 .1 .0) (r .result) (r .ensures) (g .0 .0) (g .0 .1 .0) (g .1) in
-    subst (λ (l : List ℤ). Settled (now (c .before .before .before .before .before .before .before .before .before .before .before .before .before .before .args .from)) (now (c .before .before .before .before .before .before .before .before .before .before .before .before .before .before .args .to)) (now (c .before .before .before .before .before .before .before .before .before .before .before .before .before .before .args .cost)) (now (c .before .before .before .before .before .before .before .before .before .before .before .before .before .before .args .reward)) (c .before .before .before .before .before .before .before .before .before .before .before .before .before .before .args .nodes) l (r .last .1 .1 .1 .1 .1 .0) (r .last .1 .1 .1 .1 .1 .1 .0) (toZ w64 (ofZ w64 (g .0 .0))) (g .0 .1 .0) (c .before .before .before .before .before .before .before .before .before .loop .arcs)) (c .before .before .before .before .before .before .before .before .before .loop .inv .1 .1)
-    (again-settled (now (c .before .before .before .before .before .before .before .before .before .before .before .before .before .before .args .from)) (now (c .before .before .before .before .before .before .before .before .before .before .before .before .before .before .args .to)) (now (c .before .before .before .before .before .before .before .before .before .before .before .before .before .before .args .cost)) (now (c .before .before .before .before .before .before .before .before .before .before .before .before .before .before .args .reward)) (c .before .before .before .before .before .before .before .before .before .before .before .before .before .before .args .nodes) (c .before .before .before .before .before .before .before .before .before .loop .potential) (r .last .1 .1 .1 .1 .1 .0) (r .last .1 .1 .1 .1 .1 .1 .0) (g .0 .0) (g .0 .1 .0) (c .before .before .before .before .before .before .before .before .before .loop .arcs)
+    let d = was-done (now (s .args .from)) (now (s .args .to)) (now (s .args .cost)) (now (s .args .reward)) (s .args .nodes) (c .before .before .before .before .before .before .before .before .before .loop .arcs) (c .before .before .before .before .before .before .before .before .before .loop .potential) (r .last .1 .1 .1 .1 .1 .0) (c .before .before .before .before .before .before .before .before .before .loop .hand) (r .last .1 .1 .1 .1 .1 .1 .0) (r .result) (r .ensures) (g .0 .0) (g .0 .1 .0) (g .1) in
+    subst (λ (l : List ℤ). Settled (now (s .args .from)) (now (s .args .to)) (now (s .args .cost)) (now (s .args .reward)) (s .args .nodes) l (r .last .1 .1 .1 .1 .1 .0) (r .last .1 .1 .1 .1 .1 .1 .0) (toZ w64 (ofZ w64 (g .0 .0))) (g .0 .1 .0) (c .before .before .before .before .before .before .before .before .before .loop .arcs)) (c .before .before .before .before .before .before .before .before .before .loop .inv .1 .1)
+    (again-settled (now (s .args .from)) (now (s .args .to)) (now (s .args .cost)) (now (s .args .reward)) (s .args .nodes) (c .before .before .before .before .before .before .before .before .before .loop .potential) (r .last .1 .1 .1 .1 .1 .0) (r .last .1 .1 .1 .1 .1 .1 .0) (g .0 .0) (g .0 .1 .0) (c .before .before .before .before .before .before .before .before .before .loop .arcs)
     (small (g .0 .0) 20480001 (omega (arith, d .p-small)) (omega arith)) d)
 
 pub settle-spec : {M : Type 1} → statement M
