@@ -26,12 +26,13 @@ use Rattle.sheet.specs.declared.Edge.{Edge}
 use Rattle.sheet.specs.declared.Sheet.{Sheet}
 use Rattle.sheet.proofs.AcceptedLaws.{header}
 use Rattle.sheet.proofs.DecodeLaws.{filled-at}
-use Rattle.nodes.specs.Numbers.{Layout, number, nodeOf, isNumber, stepBy}
+use Rattle.nodes.specs.Numbers.{Layout, firstLayout, number, nodeOf, isNumber, stepBy}
 use Rattle.nodes.specs.Meaning.{meaning}
 use Rattle.nodes.specs.Decoded.{fewClocks, guardOf, boundIn, lowerIn, upperIn, locationIn, edgeIn, decodedMeaning, alone}
 use Rattle.nodes.proofs.Carried.{named}
-use Rattle.nodes.proofs.AgreeLaws.{Agree}
-use Rattle.nodes.proofs.CheckedLaws.{guard-value}
+use Rattle.nodes.proofs.NumberLaws.{node-there}
+use Rattle.nodes.proofs.AgreeLaws.{Agree, number-steps-agree}
+use Rattle.nodes.proofs.CheckedLaws.{guard-value, sound, room}
 
 clock-byte : (kind : Kind) (s : List ℕ) (at b d j : ℕ) → j < 3 → Option·getD (fieldAt kind s at (b + j)) d ≡ getD (clockBytes kind s at b d) j 0
 clock-byte kind s at b d zero h = ap (λ (x : ℕ). Option·getD (fieldAt kind s at x) d) (add-zero b)
@@ -78,6 +79,11 @@ module _ (s : List ℕ) (ok : checkOf s ≡ 0) where
   -- stepping what was read is stepping what the bytes mean
   pub read-agrees : Agree (meaning s) (decodedMeaning (readOf s))
   read-agrees = subst (λ (d : Sheet). Agree (meaning s) (decodedMeaning d)) (sym (read-passed s ok)) decoded-agrees
+
+  pub read-step : (x code : ℕ) → isNumber firstLayout (meaning s) x ≡ true
+      → stepBy firstLayout (decodedMeaning (readOf s)) x code ≡ stepBy firstLayout (meaning s) x code
+  read-step x code h = sym (number-steps-agree firstLayout (meaning s) (decodedMeaning (readOf s)) read-agrees (sound s ok) x code
+      (node-there firstLayout (meaning s) (room s ok) x h))
 
 -- ---- the records at hand
 

@@ -4,8 +4,8 @@ use mathlib.Core.Bool.{true}
 use mathlib.Core.Option.{some, Option·map}
 use Prim.Native.Nat.{ℕ, _^_, _≤_, _<_}
 use native.Mathlib.Omega.{arith}
-use borrow.Author.Tests.{eqb-true, eq-eqb}
-use lib.Dec.{eqb}
+use borrow.Author.Tests.{ltb-true, eqb-true, eq-eqb}
+use lib.Dec.{ltb, eqb}
 use lib.IntN.{ℤ, pos, _*ℤ_}
 use lib.Signed.{_≤ℤ_}
 use mathlib.Core.List.{List}
@@ -13,18 +13,18 @@ use Rattle.automaton.specs.Automaton.{Automaton}
 use Rattle.automaton.specs.Priced.{Priced}
 use Rattle.automaton.specs.Nodes.{Node, isNode, startNode, Sound}
 use Rattle.automaton.specs.Steps.{step}
-use Rattle.automaton.specs.Walks.{Reachable, ReachableCycle}
+use Rattle.automaton.specs.Walks.{Walk, Reachable, ReachableCycle}
 use Rattle.automaton.specs.Weights.{weight, Feasible}
 use Rattle.automaton.specs.Runs.{State, Member, run, startState}
 use Rattle.automaton.specs.Loops.{NoLoopBelow}
 use Rattle.automaton.proofs.Tests.{&&-left, &&-right, &&-intro}
-use Rattle.automaton.proofs.Codes.{unit-or-move}
+use Rattle.automaton.proofs.Codes.{step-cases, edge-needs, unit-or-move}
 use Rattle.automaton.proofs.Nodes.{Proper, proper-of, class-small, corner-small, whole-small}
 use Rattle.automaton.proofs.Reached.{start-is-node, step-to-node}
 use Rattle.automaton.proofs.Comparison.{no-loop-below, run-weighs}
 use Rattle.nodes.specs.Numbers.{Layout, classAt, number, nodeOf, isNumber, stepBy, startNumber}
 use Rattle.nodes.proofs.Packing.{Fits, unpacked}
-use Rattle.nodes.proofs.Carried.{named, named-some, Source, reach-named, reach-back, cycle-named, cycle-back, feasible-back}
+use Rattle.nodes.proofs.Carried.{named, named-some, Source, Back, walk-named, walk-back, reach-named, reach-back, cycle-named, cycle-back, feasible-back, feasible-named}
 
 -- the nodes of an automaton have room in a layout
 pub record Room (y : Layout) (A : Automaton) : Type 0 where
@@ -73,6 +73,16 @@ module _ (y : Layout) (A : Automaton) (room : Room y A) where
   unfolding stepBy
   same-step u code h = ap (λ (w : Node). Option·map (named (number y)) (step A w code)) (node-of-number u h)
 
+  -- only the edges' codes, 32 and 33 are allowed
+  pub step-code {ℓ} : {X : Type ℓ} (x code : ℕ) (v : Priced ℕ) → stepBy y A x code ≡ some v
+      → (code < A .edges → code ≤ 31 → X) → (code ≡ 32 → X) → (code ≡ 33 → X) → X
+  unfolding stepBy
+  step-code x code v e f g h =
+      let u = nodeOf y (A .clocks) x in
+      let a = named-some (number y) (step A u code) v e in
+      step-cases A u code (a .value) (a .is)
+      (λ l s. f (ltb-true code (A .edges) (&&-left (ltb code (A .edges)) _ (edge-needs A u (a .value) code s .0))) l) (λ q s. g q) (λ q s. h q)
+
   -- at most one of codes 32 and 33
   pub unit-or-move-number : (x : ℕ) (v w : Priced ℕ) → stepBy y A x 32 ≡ some v → stepBy y A x 33 ≡ some w → ⊥
   unfolding stepBy
@@ -109,11 +119,23 @@ module _ (y : Layout) (A : Automaton) (room : Room y A) where
     pub reached-is-number : {x : ℕ} → Reachable (stepBy y A) (startNumber y A) x → isNumber y A x ≡ true
     reached-is-number r = let s = reached-number r in subst (λ (z : ℕ). isNumber y A z ≡ true) (s .is) (number-there (s .node) (s .holds))
 
+    -- walks from a node
+    pub number-walk : {u v : Node} {l : List ℕ} {c : ℤ} {r : ℕ} → isNode A u ≡ true → Walk (step A) u l v c r → Walk (stepBy y A) (number y u) l (number y v) c r
+    number-walk = walk-named (step A) (stepBy y A) (number y) (λ u. isNode A u ≡ true) keeps same-step
+
+    pub walk-number : {u : Node} {l : List ℕ} {x : ℕ} {c : ℤ} {r : ℕ} → isNode A u ≡ true → Walk (stepBy y A) (number y u) l x c r
+        → Back (step A) (number y) (λ u. isNode A u ≡ true) u l x c r
+    walk-number = walk-back (step A) (stepBy y A) (number y) (λ u. isNode A u ≡ true) keeps same-step
+
     pub number-cycle : {c : ℤ} {r : ℕ} → ReachableCycle (step A) (startNode A) c r → ReachableCycle (stepBy y A) (startNumber y A) c r
     number-cycle = cycle-named (step A) (stepBy y A) (number y) (λ u. isNode A u ≡ true) keeps same-step (startNode A) begins
 
     pub cycle-number : {c : ℤ} {r : ℕ} → ReachableCycle (stepBy y A) (startNumber y A) c r → ReachableCycle (step A) (startNode A) c r
     cycle-number = cycle-back (step A) (stepBy y A) (number y) (λ u. isNode A u ≡ true) keeps same-step (startNode A) begins apart
+
+    pub number-feasible : (p : ℤ) (q : ℕ) (π : ℕ → ℤ) → Feasible (step A) (startNode A) p q (λ u. π (number y u))
+        → Feasible (stepBy y A) (startNumber y A) p q π
+    number-feasible = feasible-named (step A) (stepBy y A) (number y) (λ u. isNode A u ≡ true) keeps same-step (startNode A) begins
 
     -- ---- the comparison theorem, with potentials on numbers
 

@@ -146,13 +146,15 @@ module _ (k : ℕ) (l : Location) (x kk : ℕ) (n : Node) (few : kk ≡ fewClock
       ∙ unit-taken k l x (whole h) (sym corner ∙ q ∙ top)
 
   pub risen : (v : Node) → v ≡ afterRise kk n → occurs 0 (take kk (n .region .class)) ≡ true
-      → answered (only (boundsIn (l .upper) kk (v .region)) (free (number firstLayout (fromArrays v)))) ≡ answered (stepBy firstLayout (alone k blankEdge l) x 33)
-  risen v q h = ap₂ (λ (m : ℕ) (w : Node). answered (only (boundsIn (l .upper) m (w .region)) (free (number firstLayout (fromArrays w))))) few
+      → (z : Stepped) → z ≡ answered (only (boundsIn (l .upper) kk (v .region)) (free (number firstLayout (fromArrays v))))
+      → z ≡ answered (stepBy firstLayout (alone k blankEdge l) x 33)
+  risen v q h z e = e ∙ ap₂ (λ (m : ℕ) (w : Node). answered (only (boundsIn (l .upper) m (w .region)) (free (number firstLayout (fromArrays w))))) few
       (q ∙ ap₂ afterRise few node) ∙ move-rises k l x (whole h)
 
   pub carried : (g : ℕ) → g ≡ largest (n .region .class) → (v : Node) → v ≡ afterCarry g n → occurs 0 (take kk (n .region .class)) ≡ false → n .corner < g
-      → answered (only (boundsIn (l .upper) kk (v .region)) (free (number firstLayout (fromArrays v)))) ≡ answered (stepBy firstLayout (alone k blankEdge l) x 33)
-  carried g r v q h c = ap₂ (λ (m : ℕ) (w : Node). answered (only (boundsIn (l .upper) m (w .region)) (free (number firstLayout (fromArrays w))))) few
+      → (z : Stepped) → z ≡ answered (only (boundsIn (l .upper) kk (v .region)) (free (number firstLayout (fromArrays v))))
+      → z ≡ answered (stepBy firstLayout (alone k blankEdge l) x 33)
+  carried g r v q h c z e = e ∙ ap₂ (λ (m : ℕ) (w : Node). answered (only (boundsIn (l .upper) m (w .region)) (free (number firstLayout (fromArrays w))))) few
       (q ∙ ap (afterCarry g) node) ∙ move-carries k l x g (r ∙ top) (whole h) (omega (arith, corner))
 
   pub stays : (g : ℕ) → g ≡ largest (n .region .class) → occurs 0 (take kk (n .region .class)) ≡ false → g ≤ n .corner

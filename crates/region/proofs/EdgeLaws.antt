@@ -107,10 +107,10 @@ module _ (k : ℕ) (e : Edge) (l : Location) (x kk : ℕ) (n : Node) (few : kk �
     unfolding nodeOf
     here = refl
 
-    pub taken : (c : ℤ) → c ≡ e .cost → e .source ≡ bitsOf x 4 20 → guardsIn (e .lower) (e .upper) kk (n .region) ≡ true
-        → boundsIn (l .upper) kk (v .region) ≡ true → (z : ℕ) → z ≡ number firstLayout (fromArrays v)
+    pub taken : (c : ℤ) → c ≡ e .cost → e .source ≡ bitsOf x 4 20 → (a : Bool) → a ≡ guardsIn (e .lower) (e .upper) kk (n .region)
+        → a ≡ true → (b : Bool) → b ≡ boundsIn (l .upper) kk (v .region) → b ≡ true → (z : ℕ) → z ≡ number firstLayout (fromArrays v)
         → _≡_ {A = Stepped} (record { refusal = 0; number = z; cost = c; reward = e .reward }) (answered (stepBy firstLayout (alone k e l) x 0))
-    taken c p s g b z q = (λ i. record { refusal = 0; number = (q ∙ ap (λ (m : Node). number firstLayout (fromArrays m)) led) i; cost = p i; reward = e .reward })
+    taken c p s a g t b w y z q = (λ i. record { refusal = 0; number = (q ∙ ap (λ (m : Node). number firstLayout (fromArrays m)) led) i; cost = p i; reward = e .reward })
         ∙ edge-taken k e l x (s ∙ here)
-        (sym (ap₂ (λ (m : ℕ) (n : Node). guardsIn (e .lower) (e .upper) m (n .region)) few node) ∙ g)
-        (sym (ap₂ (λ (m : ℕ) (n : Node). boundsIn (l .upper) m (n .region)) few led) ∙ b)
+        (sym (ap₂ (λ (m : ℕ) (n : Node). guardsIn (e .lower) (e .upper) m (n .region)) few node) ∙ sym g ∙ t)
+        (sym (ap₂ (λ (m : ℕ) (n : Node). boundsIn (l .upper) m (n .region)) few led) ∙ sym w ∙ y)

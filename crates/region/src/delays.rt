@@ -15,6 +15,7 @@ use crate::Region;
 use crate::Stepped;
 use sheet::Location;
 
+// Question 16 of one unit of delay, by the location's record.
 pub fn unit_step(number: u32, clocks: u8, location: Location) -> Stepped
     ensures { λ r. ⌜ r ≡ answered (stepBy firstLayout (alone clocks blankEdge location) number 32) ⌝ }
 {
@@ -41,6 +42,7 @@ pub fn unit_step(number: u32, clocks: u8, location: Location) -> Stepped
     }
 }
 
+// One class more, for a clock that the sheet has.
 fn risen_class(clocks: usize, j: usize, c: u8) -> u8
     requires { ⌜ c < 4 ⌝ }
     ensures { λ r. ⌜ r ≡ risenClass clocks j c ⌝ }
@@ -121,6 +123,7 @@ fn land(node: Node, upper: [u8; 3], clocks: usize) -> Stepped
     }
 }
 
+// Question 16 of a region move, by the location's record.
 pub fn move_step(number: u32, clocks: u8, location: Location) -> Stepped
     ensures { λ r. ⌜ r ≡ answered (stepBy firstLayout (alone clocks blankEdge location) number 33) ⌝ }
 {

@@ -1,4 +1,4 @@
-// Edges.
+// An edge, taken from a node.
 ghost use mathlib.Core.Path.{_≡_};
 ghost use mathlib.Core.Bool.{cond};
 ghost use Prim.Native.Nat.{ℕ, _<_};
@@ -60,6 +60,7 @@ fn after_edge(node: Node, target: u8, reset: u8) -> Node
     }
 }
 
+// Question 16 of an edge, by its record and that of its target. One that starts elsewhere is refused first: most do.
 pub fn edge_step(number: u32, clocks: u8, edge: Edge, target: Location) -> Stepped
     ensures { λ r. ⌜ r ≡ answered (stepBy firstLayout (alone clocks edge target) number 0) ⌝ }
 {

@@ -31,6 +31,7 @@ pub struct Stepped {
     pub reward: u16,
 }
 
+// A refusal, and nothing else.
 pub fn refused(refusal: u8) -> Stepped
     ensures { λ r. ⌜ r ≡ refused refusal ⌝ }
 {

@@ -12,7 +12,11 @@ refused-requires : tie.Need-refused-requires
 refused-requires c κs = search needs
 
 returns : tie.Need-returns
-returns c = c .refused .ensures ∙ no-edge (c .before .before .before .args .sheet) (c .before .before .before .args .number) (c .before .before .before .args .e) (c .before .before .before .pre) (c .before .if1 .taken)
+returns c =
+    let args = c .before .before .before .args in
+    let pre = c .before .before .before .pre in
+    let if1 = c .before .if1 in
+    c .refused .ensures ∙ no-edge (args .sheet) (args .number) (args .e) (pre) (if1 .taken)
 
 edge-of-requires : tie.Need-edge-of-requires
 edge-of-requires c κs = search needs
@@ -24,7 +28,14 @@ edge-step-requires : tie.Need-edge-step-requires
 edge-step-requires c κs = search needs
 
 returns-2 : tie.Need-returns-2
-returns-2 c = c .edge-step .ensures ∙ edge-there (c .before .before .before .before .before .before .before .args .sheet) (c .before .before .before .before .before .before .before .args .number) (c .before .before .before .before .before .before .before .args .e) (c .before .before .before .before .before .before .before .pre) (c .before .before .before .before .before .if1 .left) (c .before .before .before .edge-of .result) (c .before .before .before .edge-of .ensures) (c .before .location-of .result) (c .before .location-of .ensures)
+returns-2 c =
+    let args = c .before .before .before .before .before .before .before .args in
+    let pre = c .before .before .before .before .before .before .before .pre in
+    let if1 = c .before .before .before .before .before .if1 in
+    let edge-of = c .before .before .before .edge-of in
+    let location-of = c .before .location-of in
+    c .edge-step .ensures ∙ edge-there (args .sheet) (args .number) (args .e) (pre) (if1 .left) (edge-of .result) (edge-of .ensures) (location-of .result)
+    (location-of .ensures)
 
 pub edge-from-spec : {M : Type 1} → statement M
 edge-from-spec =

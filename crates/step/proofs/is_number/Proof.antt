@@ -10,7 +10,10 @@ location-in-requires : tie.Need-location-in-requires
 location-in-requires c κs = search needs
 
 returns : tie.Need-returns
-returns c = no-location (c .before .before .before .args .sheet) (c .before .before .before .args .number) (subst (λ (l : ℕ). c .before .before .before .args .sheet .locations ≤ l) (c .before .before .location-in .ensures) (c .if1 .taken))
+returns c =
+    let args = c .before .before .before .args in
+    let location-in = c .before .before .location-in in
+    no-location (args .sheet) (args .number) (subst (λ (l : ℕ). args .sheet .locations ≤ l) (location-in .ensures) (c .if1 .taken))
 
 location-at-requires : tie.Need-location-at-requires
 location-at-requires c κs = search needs
@@ -19,7 +22,13 @@ is-number-requires : tie.Need-is-number-requires
 is-number-requires c κs = search needs
 
 returns-2 : tie.Need-returns-2
-returns-2 c = c .is-number .ensures ∙ by-location (c .before .before .before .before .before .args .sheet) (c .before .before .before .before .before .args .number) (subst (λ (l : ℕ). l < c .before .before .before .before .before .args .sheet .locations) (c .before .before .before .before .location-in .ensures) (c .before .before .if1 .left)) (c .before .location-at .result) (c .before .location-at .ensures)
+returns-2 c =
+    let args = c .before .before .before .before .before .args in
+    let location-in = c .before .before .before .before .location-in in
+    let if1 = c .before .before .if1 in
+    let location-at = c .before .location-at in
+    c .is-number .ensures ∙ by-location (args .sheet) (args .number) (subst (λ (l : ℕ). l < args .sheet .locations) (location-in .ensures) (if1 .left))
+    (location-at .result) (location-at .ensures)
 
 pub is-number-spec : {M : Type 1} → statement M
 is-number-spec =

@@ -15,7 +15,9 @@ array-copy-out-result : tie.Need-array-copy-out-result
 array-copy-out-result c = search needs
 
 returns : tie.Need-returns
-returns c = let n : length (c .before .before .args .t1) ≡ 12 = search needs in any-default (c .before .before .args .t1) (c .before .before .args .l) _ blankLocation (omega arith)
+returns c =
+    let args = c .before .before .args in
+    let n : length (args .t1) ≡ 12 = search needs in any-default (args .t1) (args .l) _ blankLocation (omega arith)
 
 returns-2 : tie.Need-returns-2
 returns-2 c = let n : length (c .before .args .t1) ≡ 12 = search needs in sym (List·getD-eq-default (c .before .args .t1) blankLocation (omega arith))

@@ -14,7 +14,11 @@ step-in-requires : tie.Need-step-in-requires
 step-in-requires c κs = search needs
 
 returns : tie.Need-returns
-returns c = c .step-in .ensures ∙ ap (λ (s : Sheet). stepIn s (c .before .before .before .args .number) (c .before .before .before .args .code)) (c .before .read .ensures) ∙ read-steps (c .before .before .before .args .sheet .now) (c .before .before .before .args .number) (c .before .before .before .args .code)
+returns c =
+    let args = c .before .before .before .args in
+    let read = c .before .read in
+    c .step-in .ensures ∙ ap (λ (s : Sheet). stepIn s (args .number) (args .code)) (read .ensures) ∙ read-steps (args .sheet .now) (args .number)
+    (args .code)
 
 pub step-spec : {M : Type 1} → statement M
 step-spec = tie.close (tie.spec read-requires step-in-requires returns)

@@ -25,16 +25,29 @@ refused-requires : tie.Need-refused-requires
 refused-requires c κs = search needs
 
 returns : tie.Need-returns
-returns c = c .unit-step .ensures ∙ delay-there (c .before .before .before .args .sheet) (c .before .before .before .args .number) (c .before .before .before .args .code) 32 (c .before .before .match .keys1) (omega arith) (c .before .location-at .result) (c .before .location-at .ensures)
+returns c =
+    let args = c .before .before .before .args in
+    let match = c .before .before .match in
+    let location-at = c .before .location-at in
+    c .unit-step .ensures ∙ delay-there (args .sheet) (args .number) (args .code) 32 (match .keys1) (omega arith) (location-at .result)
+    (location-at .ensures)
 
 returns-2 : tie.Need-returns-2
-returns-2 c = c .move-step .ensures ∙ delay-there (c .before .before .before .args .sheet) (c .before .before .before .args .number) (c .before .before .before .args .code) 33 (c .before .before .match .keys2) (omega arith) (c .before .location-at2 .result) (c .before .location-at2 .ensures)
+returns-2 c =
+    let args = c .before .before .before .args in
+    let match = c .before .before .match in
+    let location-at2 = c .before .location-at2 in
+    c .move-step .ensures ∙ delay-there (args .sheet) (args .number) (args .code) 33 (match .keys2) (omega arith) (location-at2 .result)
+    (location-at2 .ensures)
 
 returns-3 : tie.Need-returns-3
 returns-3 c = search needs
 
 returns-4 : tie.Need-returns-4
-returns-4 c = c .refused .ensures ∙ no-code (c .before .before .before .args .sheet) (c .before .before .before .args .number) (c .before .before .before .args .code) (omega arith) (c .before .before .match .rest .0 .1) (c .before .before .match .rest .1)
+returns-4 c =
+    let args = c .before .before .before .args in
+    let match = c .before .before .match in
+    c .refused .ensures ∙ no-code (args .sheet) (args .number) (args .code) (omega arith) (match .rest .0 .1) (match .rest .1)
 
 pub step-from-spec : {M : Type 1} → statement M
 step-from-spec =

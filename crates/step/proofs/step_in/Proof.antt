@@ -10,7 +10,10 @@ refused-requires : tie.Need-refused-requires
 refused-requires c κs = search needs
 
 returns : tie.Need-returns
-returns c = c .refused .ensures ∙ step-refused (c .before .before .args .sheet) (c .before .before .args .number) (c .before .before .args .code) (c .before .if1 .taken)
+returns c =
+    let args = c .before .before .args in
+    let if1 = c .before .if1 in
+    c .refused .ensures ∙ step-refused (args .sheet) (args .number) (args .code) (if1 .taken)
 
 is-number-requires : tie.Need-is-number-requires
 is-number-requires c κs = search needs
@@ -19,13 +22,25 @@ refused-requires-2 : tie.Need-refused-requires-2
 refused-requires-2 c κs = search needs
 
 returns-2 : tie.Need-returns-2
-returns-2 c = c .refused2 .ensures ∙ step-nowhere (c .before .before .before .before .args .sheet) (c .before .before .before .before .args .number) (c .before .before .before .before .args .code) (c .before .before .before .if1 .left) (sym (c .before .before .is-number .ensures) ∙ not-true (c .before .before .is-number .result) (c .before .if2 .taken))
+returns-2 c =
+    let args = c .before .before .before .before .args in
+    let if1 = c .before .before .before .if1 in
+    let is-number = c .before .before .is-number in
+    let if2 = c .before .if2 in
+    c .refused2 .ensures ∙ step-nowhere (args .sheet) (args .number) (args .code) (if1 .left)
+    (sym (is-number .ensures) ∙ not-true (is-number .result) (if2 .taken))
 
 step-from-requires : tie.Need-step-from-requires
 step-from-requires c κs = search needs
 
 returns-3 : tie.Need-returns-3
-returns-3 c = c .step-from .ensures ∙ step-answered (c .before .before .before .before .args .sheet) (c .before .before .before .before .args .number) (c .before .before .before .before .args .code) (c .before .before .before .if1 .left) (sym (c .before .before .is-number .ensures) ∙ not-false (c .before .before .is-number .result) (c .before .if2 .left))
+returns-3 c =
+    let args = c .before .before .before .before .args in
+    let if1 = c .before .before .before .if1 in
+    let is-number = c .before .before .is-number in
+    let if2 = c .before .if2 in
+    c .step-from .ensures ∙ step-answered (args .sheet) (args .number) (args .code) (if1 .left)
+    (sym (is-number .ensures) ∙ not-false (is-number .result) (if2 .left))
 
 pub step-in-spec : {M : Type 1} → statement M
 step-in-spec =

@@ -12,7 +12,11 @@ cast-result : tie.Need-cast-result
 cast-result c = cast _ (below (c .before .args .z) (c .before .fits .z) (c .if1 .taken))
 
 add-result : tie.Need-add-result
-add-result c = omega (arith, size-of _ (below (c .before .args .z) (c .before .fits .z) (c .if1 .taken)), below (c .before .args .z) (c .before .fits .z) (c .if1 .taken) .small)
+add-result c =
+    let args = c .before .args in
+    let fits = c .before .fits in
+    let if1 = c .if1 in
+    omega (arith, size-of _ (below (args .z) (fits .z) (if1 .taken)), below (args .z) (fits .z) (if1 .taken) .small)
 
 returns : tie.Need-returns
 returns c = search needs

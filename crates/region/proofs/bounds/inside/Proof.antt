@@ -41,12 +41,16 @@ upper-holds-requires c κs = search needs
 returns : tie.Need-returns Inv-loop μ-loop
 unfolding boundsIn
 returns c =
-    let w : length (c .before .before .before .before .before .before .before .args .t1 .whole) ≡ 3 = search needs in
-    let k : length (c .before .before .before .before .before .before .before .args .t1 .class) ≡ 3 = search needs in
-    let here = zip-at interval (c .before .before .before .before .before .before .before .args .t1 .whole) (c .before .before .before .before .before .before .before .args .t1 .class) (c .before .before .before .before .before .before .loop .j) (omega arith) (omega arith) in
-    let long = zip-long interval (c .before .before .before .before .before .before .before .args .t1 .whole) (c .before .before .before .before .before .before .before .args .t1 .class) 3 w k in
-    sym (every-fails (λ i x. upperHolds (getD (c .before .before .before .before .before .before .before .args .t2) i 0) x) (zipWith interval (c .before .before .before .before .before .before .before .args .t1 .whole) (c .before .before .before .before .before .before .before .args .t1 .class)) (c .before .before .before .before .before .before .before .args .clocks) (c .before .before .before .before .before .before .loop .j) (omega arith) (omega arith)
-    (ap (upperHolds (getD (c .before .before .before .before .before .before .before .args .t2) (c .before .before .before .before .before .before .loop .j) 0)) (here ∙ sym (c .before .before .interval-of .ensures)) ∙ sym (c .before .upper-holds .ensures) ∙ not-true (c .before .upper-holds .result) (c .if1 .taken)))
+    let args = c .before .before .before .before .before .before .before .args in
+    let loop = c .before .before .before .before .before .before .loop in
+    let interval-of = c .before .before .interval-of in
+    let upper-holds = c .before .upper-holds in
+    let w : length (args .t1 .whole) ≡ 3 = search needs in
+    let k : length (args .t1 .class) ≡ 3 = search needs in
+    let here = zip-at interval (args .t1 .whole) (args .t1 .class) (loop .j) (omega arith) (omega arith) in
+    let long = zip-long interval (args .t1 .whole) (args .t1 .class) 3 w k in
+    sym (every-fails (λ i x. upperHolds (getD (args .t2) i 0) x) (zipWith interval (args .t1 .whole) (args .t1 .class)) (args .clocks) (loop .j) (omega arith) (omega arith)
+    (ap (upperHolds (getD (args .t2) (loop .j) 0)) (here ∙ sym (interval-of .ensures)) ∙ sym (upper-holds .ensures) ∙ not-true (upper-holds .result) (c .if1 .taken)))
 
 add-j : tie.Need-add-j Inv-loop μ-loop
 add-j c = search needs
@@ -56,18 +60,26 @@ loop-less c = search needs
 
 loop-again : tie.Need-loop-again Inv-loop μ-loop
 loop-again c =
-    let w : length (c .before .before .before .before .before .before .before .args .t1 .whole) ≡ 3 = search needs in
-    let k : length (c .before .before .before .before .before .before .before .args .t1 .class) ≡ 3 = search needs in
-    let here = zip-at interval (c .before .before .before .before .before .before .before .args .t1 .whole) (c .before .before .before .before .before .before .before .args .t1 .class) (c .before .before .before .before .before .before .loop .j) (omega arith) (omega arith) in
-    let long = zip-long interval (c .before .before .before .before .before .before .before .args .t1 .whole) (c .before .before .before .before .before .before .before .args .t1 .class) 3 w k in (
+    let args = c .before .before .before .before .before .before .before .args in
+    let loop = c .before .before .before .before .before .before .loop in
+    let interval-of = c .before .before .interval-of in
+    let upper-holds = c .before .upper-holds in
+    let w : length (args .t1 .whole) ≡ 3 = search needs in
+    let k : length (args .t1 .class) ≡ 3 = search needs in
+    let here = zip-at interval (args .t1 .whole) (args .t1 .class) (loop .j) (omega arith) (omega arith) in
+    let long = zip-long interval (args .t1 .whole) (args .t1 .class) 3 w k in (
       search needs,
-      every-more (λ i x. upperHolds (getD (c .before .before .before .before .before .before .before .args .t2) i 0) x) (zipWith interval (c .before .before .before .before .before .before .before .args .t1 .whole) (c .before .before .before .before .before .before .before .args .t1 .class)) (c .before .before .before .before .before .before .loop .j) (omega arith) (c .before .before .before .before .before .before .loop .inv .1)
-          (ap (upperHolds (getD (c .before .before .before .before .before .before .before .args .t2) (c .before .before .before .before .before .before .loop .j) 0)) (here ∙ sym (c .before .before .interval-of .ensures)) ∙ sym (c .before .upper-holds .ensures) ∙ not-false (c .before .upper-holds .result) (c .if1 .left)),
+      every-more (λ i x. upperHolds (getD (args .t2) i 0) x) (zipWith interval (args .t1 .whole) (args .t1 .class)) (loop .j) (omega arith) (loop .inv .1)
+          (ap (upperHolds (getD (args .t2) (loop .j) 0)) (here ∙ sym (interval-of .ensures)) ∙ sym (upper-holds .ensures) ∙ not-false (upper-holds .result) (c .if1 .left)),
     )
 
 returns-2 : tie.Need-returns-2 Inv-loop μ-loop
 unfolding boundsIn
-returns-2 c = sym (every-all (λ i x. upperHolds (getD (c .before .before .args .t2) i 0) x) (zipWith interval (c .before .before .args .t1 .whole) (c .before .before .args .t1 .class)) (c .before .before .args .clocks) (c .before .loop .j) (search needs) (search needs) (c .before .loop .inv .1))
+returns-2 c =
+    let args = c .before .before .args in
+    let loop = c .before .loop in
+    sym
+    (every-all (λ i x. upperHolds (getD (args .t2) i 0) x) (zipWith interval (args .t1 .whole) (args .t1 .class)) (args .clocks) (loop .j) (search needs) (search needs) (loop .inv .1))
 
 pub inside-spec : {M : Type 1} → statement M
 inside-spec =

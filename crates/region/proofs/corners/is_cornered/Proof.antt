@@ -13,10 +13,18 @@ rank-of-requires : tie.Need-rank-of-requires
 rank-of-requires c κs = omega (arith, c .largest-of .ensures, largest-below 4 (c .before .args .class) (search needs) (c .before .pre))
 
 returns : tie.Need-returns
-returns c = unused-rank (c .before .before .before .args .class) (c .before .before .before .args .corner) (c .before .before .largest-of .result) (c .before .rank-of .result) (c .before .before .largest-of .ensures) (c .before .rank-of .ensures) (c .if1 .taken)
+returns c =
+    let args = c .before .before .before .args in
+    let largest-of = c .before .before .largest-of in
+    let rank-of = c .before .rank-of in
+    unused-rank (args .class) (args .corner) (largest-of .result) (rank-of .result) (largest-of .ensures) (rank-of .ensures) (c .if1 .taken)
 
 returns-2 : tie.Need-returns-2
-returns-2 c = used-ranks (c .before .before .before .args .class) (c .before .before .before .args .corner) (c .before .before .largest-of .result) (c .before .rank-of .result) (c .before .before .largest-of .ensures) (c .before .rank-of .ensures) (c .if1 .left)
+returns-2 c =
+    let args = c .before .before .before .args in
+    let largest-of = c .before .before .largest-of in
+    let rank-of = c .before .rank-of in
+    used-ranks (args .class) (args .corner) (largest-of .result) (rank-of .result) (largest-of .ensures) (rank-of .ensures) (c .if1 .left)
 
 pub is-cornered-spec : {M : Type 1} → statement M
 is-cornered-spec = tie.close (tie.spec largest-of-requires rank-of-requires returns returns-2)

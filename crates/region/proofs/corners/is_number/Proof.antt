@@ -17,19 +17,44 @@ pack-requires : tie.Need-pack-requires
 pack-requires c κs = search needs
 
 returns : tie.Need-returns
-returns c = other-number (c .before .before .before .before .args .clocks) (c .before .before .before .before .args .location) (c .before .before .before .before .args .number) (c .before .before .before .few .result) (c .before .before .unpack .result) (c .before .before .before .few .ensures) (c .before .before .unpack .ensures) (λ q. c .if1 .taken (c .before .pack .ensures ∙ q))
+returns c =
+    let args = c .before .before .before .before .args in
+    let few = c .before .before .before .few in
+    let unpack = c .before .before .unpack in
+    let pack = c .before .pack in
+    other-number (args .clocks) (args .location) (args .number) (few .result) (unpack .result) (few .ensures) (unpack .ensures)
+    (λ q. c .if1 .taken (pack .ensures ∙ q))
 
 is-cornered-requires : tie.Need-is-cornered-requires
-is-cornered-requires c κs = class-of (c .before .before .before .before .unpack .result) (c .before .before .before .before .before .few .result) (c .before .before .before .before .before .before .args .number) (c .before .before .before .before .unpack .ensures)
+is-cornered-requires c κs =
+    let unpack = c .before .before .before .before .unpack in
+    let few = c .before .before .before .before .before .few in
+    let args = c .before .before .before .before .before .before .args in
+    class-of (unpack .result) (few .result) (args .number) (unpack .ensures)
 
 returns-2 : tie.Need-returns-2
-returns-2 c = no-corner (c .before .before .before .before .before .before .before .before .args .clocks) (c .before .before .before .before .before .before .before .before .args .location) (c .before .before .before .before .before .before .before .before .args .number) (c .before .before .before .before .before .before .before .few .result) (c .before .before .before .before .before .before .unpack .result) (c .before .before .before .before .before .before .before .few .ensures) (c .before .before .before .before .before .before .unpack .ensures) (sym (c .before .is-cornered .ensures) ∙ not-true (c .before .is-cornered .result) (c .if2 .taken))
+returns-2 c =
+    let args = c .before .before .before .before .before .before .before .before .args in
+    let few = c .before .before .before .before .before .before .before .few in
+    let unpack = c .before .before .before .before .before .before .unpack in
+    let is-cornered = c .before .is-cornered in
+    no-corner (args .clocks) (args .location) (args .number) (few .result) (unpack .result) (few .ensures) (unpack .ensures)
+    (sym (is-cornered .ensures) ∙ not-true (is-cornered .result) (c .if2 .taken))
 
 inside-requires : tie.Need-inside-requires
 inside-requires c κs = search needs
 
 returns-3 : tie.Need-returns-3
-returns-3 c = c .inside .ensures ∙ there (c .before .before .before .before .before .before .before .before .before .before .args .clocks) (c .before .before .before .before .before .before .before .before .before .before .args .location) (c .before .before .before .before .before .before .before .before .before .before .args .number) (c .before .before .before .before .before .before .before .before .before .few .result) (c .before .before .before .before .before .before .before .before .unpack .result) (c .before .before .before .before .before .before .before .before .before .few .ensures) (c .before .before .before .before .before .before .before .before .unpack .ensures) (sym (c .before .before .before .before .before .before .before .pack .ensures) ∙ c .before .before .before .before .before .before .if1 .left) (sym (c .before .before .before .is-cornered .ensures) ∙ not-false (c .before .before .before .is-cornered .result) (c .before .before .if2 .left))
+returns-3 c =
+    let args = c .before .before .before .before .before .before .before .before .before .before .args in
+    let few = c .before .before .before .before .before .before .before .before .before .few in
+    let unpack = c .before .before .before .before .before .before .before .before .unpack in
+    let pack = c .before .before .before .before .before .before .before .pack in
+    let if1 = c .before .before .before .before .before .before .if1 in
+    let is-cornered = c .before .before .before .is-cornered in
+    let if2 = c .before .before .if2 in
+    c .inside .ensures ∙ there (args .clocks) (args .location) (args .number) (few .result) (unpack .result) (few .ensures) (unpack .ensures)
+    (sym (pack .ensures) ∙ if1 .left) (sym (is-cornered .ensures) ∙ not-false (is-cornered .result) (if2 .left))
 
 pub is-number-spec : {M : Type 1} → statement M
 is-number-spec =

@@ -53,17 +53,23 @@ carry-class-requires-3 c κs = search needs
 
 returns : tie.Need-returns
 returns c =
-    let hs = c .before .before .before .before .before .before .before .before .before .before .before .before .before .before .before .before .args .node .region .whole in
-    let ks = c .before .before .before .before .before .before .before .before .before .before .before .before .before .before .before .before .args .node .region .class in
+    let args = c .before .before .before .before .before .before .before .before .before .before .before .before .before .before .before .before .args in
+    let carry-whole = c .before .before .before .before .before .before .before .before .before .before .before .before .carry-whole in
+    let carry-whole2 = c .before .before .before .before .before .before .before .before .before .carry-whole2 in
+    let carry-whole3 = c .before .before .before .before .before .before .carry-whole3 in
+    let carry-class = c .before .before .before .before .carry-class in
+    let carry-class2 = c .before .before .carry-class2 in
+    let hs = args .node .region .whole in
+    let ks = args .node .region .class in
     let h : length hs ≡ 3 = search needs in
     let k : length ks ≡ 3 = search needs in
     λ i. record {
-      location = c .before .before .before .before .before .before .before .before .before .before .before .before .before .before .before .before .args .node .location;
+      location = args .node .location;
       region = record {
-        whole = (each-entry (c .before .before .before .before .before .before .before .before .before .before .before .before .carry-whole .ensures) (c .before .before .before .before .before .before .before .before .before .carry-whole2 .ensures) (c .before .before .before .before .before .before .carry-whole3 .ensures) ∙ carry-three (c .before .before .before .before .before .before .before .before .before .before .before .before .before .before .before .before .args .g) hs ks h k) i;
-        class = (each-entry (c .before .before .before .before .carry-class .ensures) (c .before .before .carry-class2 .ensures) (c .carry-class3 .ensures) ∙ class-three (c .before .before .before .before .before .before .before .before .before .before .before .before .before .before .before .before .args .g) ks k) i;
+        whole = (each-entry (carry-whole .ensures) (carry-whole2 .ensures) (carry-whole3 .ensures) ∙ carry-three (args .g) hs ks h k) i;
+        class = (each-entry (carry-class .ensures) (carry-class2 .ensures) (c .carry-class3 .ensures) ∙ class-three (args .g) ks k) i;
       };
-      corner = c .before .before .before .before .before .before .before .before .before .before .before .before .before .before .before .before .args .node .corner;
+      corner = args .node .corner;
     }
 
 pub after-carry-spec : {M : Type 1} → statement M

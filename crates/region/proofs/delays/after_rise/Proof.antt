@@ -27,14 +27,19 @@ add-t7 : tie.Need-add-t7
 add-t7 c = search needs
 
 returns : tie.Need-returns
-returns c = λ i. record {
-  location = c .before .before .before .before .before .before .before .before .before .args .node .location;
-  region = record {
-    whole = c .before .before .before .before .before .before .before .before .before .args .node .region .whole;
-    class = each-entry (c .before .before .before .before .before .risen-class .ensures) (c .before .before .before .risen-class2 .ensures) (c .before .risen-class3 .ensures) i;
-  };
-  corner = add-one (c .before .before .before .before .before .before .before .before .before .args .node .corner) i;
-}
+returns c =
+    let args = c .before .before .before .before .before .before .before .before .before .args in
+    let risen-class = c .before .before .before .before .before .risen-class in
+    let risen-class2 = c .before .before .before .risen-class2 in
+    let risen-class3 = c .before .risen-class3 in
+    λ i. record {
+      location = args .node .location;
+      region = record {
+        whole = args .node .region .whole;
+        class = each-entry (risen-class .ensures) (risen-class2 .ensures) (risen-class3 .ensures) i;
+      };
+      corner = add-one (args .node .corner) i;
+    }
 
 pub after-rise-spec : {M : Type 1} → statement M
 after-rise-spec =

@@ -16,31 +16,66 @@ occurs-in-requires : tie.Need-occurs-in-requires
 occurs-in-requires c κs = search needs
 
 after-rise-requires : tie.Need-after-rise-requires
-after-rise-requires c κs = (corner-of (c .before .before .before .before .before .unpack .result) (c .before .before .before .before .before .before .few .result) (c .before .before .before .before .before .before .before .args .number) (c .before .before .before .before .before .unpack .ensures), class-of (c .before .before .before .before .before .unpack .result) (c .before .before .before .before .before .before .few .result) (c .before .before .before .before .before .before .before .args .number) (c .before .before .before .before .before .unpack .ensures))
+after-rise-requires c κs =
+    let unpack = c .before .before .before .before .before .unpack in
+    let few = c .before .before .before .before .before .before .few in
+    let args = c .before .before .before .before .before .before .before .args in
+    (corner-of (unpack .result) (few .result) (args .number) (unpack .ensures), class-of (unpack .result) (few .result) (args .number) (unpack .ensures))
 
 land-requires : tie.Need-land-requires
 land-requires c κs = search needs
 
 returns : tie.Need-returns
-returns c = c .land .ensures ∙ risen (c .before .before .before .before .before .before .before .before .before .args .clocks) (c .before .before .before .before .before .before .before .before .before .args .location) (c .before .before .before .before .before .before .before .before .before .args .number) (c .before .before .before .before .before .before .before .before .few .result) (c .before .before .before .before .before .before .before .unpack .result) (c .before .before .before .before .before .before .before .before .few .ensures) (c .before .before .before .before .before .before .before .unpack .ensures) (c .before .after-rise .result) (c .before .after-rise .ensures) (sym (c .before .before .before .occurs-in .ensures) ∙ c .before .before .if1 .taken)
+returns c =
+    let args = c .before .before .before .before .before .before .before .before .before .args in
+    let few = c .before .before .before .before .before .before .before .before .few in
+    let unpack = c .before .before .before .before .before .before .before .unpack in
+    let after-rise = c .before .after-rise in
+    let occurs-in = c .before .before .before .occurs-in in
+    let if1 = c .before .before .if1 in
+    risen (args .clocks) (args .location) (args .number) (few .result) (unpack .result) (few .ensures) (unpack .ensures)
+    (after-rise .result) (after-rise .ensures) (sym (occurs-in .ensures) ∙ if1 .taken) (c .land .result) (c .land .ensures)
 
 largest-of-requires : tie.Need-largest-of-requires
 largest-of-requires c κs = search needs
 
 after-carry-requires : tie.Need-after-carry-requires
-after-carry-requires c κs = whole-of (c .before .before .before .before .before .before .before .before .unpack .result) (c .before .before .before .before .before .before .before .before .before .few .result) (c .before .before .before .before .before .before .before .before .before .before .args .number) (c .before .before .before .before .before .before .before .before .unpack .ensures)
+after-carry-requires c κs =
+    let unpack = c .before .before .before .before .before .before .before .before .unpack in
+    let few = c .before .before .before .before .before .before .before .before .before .few in
+    let args = c .before .before .before .before .before .before .before .before .before .before .args in
+    whole-of (unpack .result) (few .result) (args .number) (unpack .ensures)
 
 land-requires-2 : tie.Need-land-requires-2
 land-requires-2 c κs = search needs
 
 returns-2 : tie.Need-returns-2
-returns-2 c = c .land2 .ensures ∙ carried (c .before .before .before .before .before .before .before .before .before .before .before .before .args .clocks) (c .before .before .before .before .before .before .before .before .before .before .before .before .args .location) (c .before .before .before .before .before .before .before .before .before .before .before .before .args .number) (c .before .before .before .before .before .before .before .before .before .before .before .few .result) (c .before .before .before .before .before .before .before .before .before .before .unpack .result) (c .before .before .before .before .before .before .before .before .before .before .before .few .ensures) (c .before .before .before .before .before .before .before .before .before .before .unpack .ensures) (c .before .before .before .before .largest-of .result) (c .before .before .before .before .largest-of .ensures) (c .before .after-carry .result) (c .before .after-carry .ensures) (sym (c .before .before .before .before .before .before .occurs-in .ensures) ∙ c .before .before .before .before .before .if1 .left) (c .before .before .if2 .taken)
+returns-2 c =
+    let args = c .before .before .before .before .before .before .before .before .before .before .before .before .args in
+    let few = c .before .before .before .before .before .before .before .before .before .before .before .few in
+    let unpack = c .before .before .before .before .before .before .before .before .before .before .unpack in
+    let largest-of = c .before .before .before .before .largest-of in
+    let after-carry = c .before .after-carry in
+    let occurs-in = c .before .before .before .before .before .before .occurs-in in
+    let if1 = c .before .before .before .before .before .if1 in
+    let if2 = c .before .before .if2 in
+    carried (args .clocks) (args .location) (args .number) (few .result) (unpack .result) (few .ensures) (unpack .ensures)
+    (largest-of .result) (largest-of .ensures) (after-carry .result) (after-carry .ensures) (sym (occurs-in .ensures) ∙ if1 .left) (if2 .taken) (c .land2 .result) (c .land2 .ensures)
 
 refused-requires : tie.Need-refused-requires
 refused-requires c κs = search needs
 
 returns-3 : tie.Need-returns-3
-returns-3 c = c .refused .ensures ∙ stays (c .before .before .before .before .before .before .before .before .before .before .before .args .clocks) (c .before .before .before .before .before .before .before .before .before .before .before .args .location) (c .before .before .before .before .before .before .before .before .before .before .before .args .number) (c .before .before .before .before .before .before .before .before .before .before .few .result) (c .before .before .before .before .before .before .before .before .before .unpack .result) (c .before .before .before .before .before .before .before .before .before .before .few .ensures) (c .before .before .before .before .before .before .before .before .before .unpack .ensures) (c .before .before .before .largest-of .result) (c .before .before .before .largest-of .ensures) (sym (c .before .before .before .before .before .occurs-in .ensures) ∙ c .before .before .before .before .if1 .left) (c .before .if2 .left)
+returns-3 c =
+    let args = c .before .before .before .before .before .before .before .before .before .before .before .args in
+    let few = c .before .before .before .before .before .before .before .before .before .before .few in
+    let unpack = c .before .before .before .before .before .before .before .before .before .unpack in
+    let largest-of = c .before .before .before .largest-of in
+    let occurs-in = c .before .before .before .before .before .occurs-in in
+    let if1 = c .before .before .before .before .if1 in
+    let if2 = c .before .if2 in
+    c .refused .ensures ∙ stays (args .clocks) (args .location) (args .number) (few .result) (unpack .result) (few .ensures) (unpack .ensures)
+    (largest-of .result) (largest-of .ensures) (sym (occurs-in .ensures) ∙ if1 .left) (if2 .left)
 
 pub move-step-spec : {M : Type 1} → statement M
 move-step-spec =

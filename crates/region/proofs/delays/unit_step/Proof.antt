@@ -20,7 +20,14 @@ refused-requires : tie.Need-refused-requires
 refused-requires c κs = search needs
 
 returns : tie.Need-returns
-returns c = c .refused .ensures ∙ some-whole (c .before .before .before .before .before .before .before .args .clocks) (c .before .before .before .before .before .before .before .args .location) (c .before .before .before .before .before .before .before .args .number) (c .before .before .before .before .before .before .few .result) (c .before .before .before .before .before .unpack .result) (c .before .before .before .before .before .before .few .ensures) (c .before .before .before .before .before .unpack .ensures) (sym (c .before .before .occurs-in .ensures) ∙ c .before .if1 .taken)
+returns c =
+    let args = c .before .before .before .before .before .before .before .args in
+    let few = c .before .before .before .before .before .before .few in
+    let unpack = c .before .before .before .before .before .unpack in
+    let occurs-in = c .before .before .occurs-in in
+    let if1 = c .before .if1 in
+    c .refused .ensures ∙ some-whole (args .clocks) (args .location) (args .number) (few .result) (unpack .result) (few .ensures) (unpack .ensures)
+    (sym (occurs-in .ensures) ∙ if1 .taken)
 
 largest-of-requires : tie.Need-largest-of-requires
 largest-of-requires c κs = search needs
@@ -29,13 +36,31 @@ refused-requires-2 : tie.Need-refused-requires-2
 refused-requires-2 c κs = search needs
 
 returns-2 : tie.Need-returns-2
-returns-2 c = c .refused2 .ensures ∙ early (c .before .before .before .before .before .before .before .before .before .before .args .clocks) (c .before .before .before .before .before .before .before .before .before .before .args .location) (c .before .before .before .before .before .before .before .before .before .before .args .number) (c .before .before .before .before .before .before .before .before .before .few .result) (c .before .before .before .before .before .before .before .before .unpack .result) (c .before .before .before .before .before .before .before .before .before .few .ensures) (c .before .before .before .before .before .before .before .before .unpack .ensures) (λ q. c .before .if2 .taken (q ∙ sym (c .before .before .before .largest-of .ensures)))
+returns-2 c =
+    let args = c .before .before .before .before .before .before .before .before .before .before .args in
+    let few = c .before .before .before .before .before .before .before .before .before .few in
+    let unpack = c .before .before .before .before .before .before .before .before .unpack in
+    let if2 = c .before .if2 in
+    let largest-of = c .before .before .before .largest-of in
+    c .refused2 .ensures ∙ early (args .clocks) (args .location) (args .number) (few .result) (unpack .result) (few .ensures) (unpack .ensures)
+    (λ q. if2 .taken (q ∙ sym (largest-of .ensures)))
 
 pack-requires : tie.Need-pack-requires
 pack-requires c κs = search needs
 
 returns-3 : tie.Need-returns-3
-returns-3 c = turned (c .before .before .before .before .before .before .before .before .before .before .before .args .clocks) (c .before .before .before .before .before .before .before .before .before .before .before .args .location) (c .before .before .before .before .before .before .before .before .before .before .before .args .number) (c .before .before .before .before .before .before .before .before .before .before .few .result) (c .before .before .before .before .before .before .before .before .before .unpack .result) (c .before .before .before .before .before .before .before .before .before .before .few .ensures) (c .before .before .before .before .before .before .before .before .before .unpack .ensures) _ (toZ-ofZ w16 (c .before .before .before .before .before .before .before .before .before .before .before .args .location .cost) (search needs)) (sym (c .before .before .before .before .before .before .occurs-in .ensures) ∙ c .before .before .before .before .before .if1 .left) (c .before .before .if2 .left ∙ c .before .before .before .before .largest-of .ensures) (c .before .pack .result) (c .before .pack .ensures)
+returns-3 c =
+    let args = c .before .before .before .before .before .before .before .before .before .before .before .args in
+    let few = c .before .before .before .before .before .before .before .before .before .before .few in
+    let unpack = c .before .before .before .before .before .before .before .before .before .unpack in
+    let occurs-in = c .before .before .before .before .before .before .occurs-in in
+    let if1 = c .before .before .before .before .before .if1 in
+    let if2 = c .before .before .if2 in
+    let largest-of = c .before .before .before .before .largest-of in
+    let pack = c .before .pack in
+    turned (args .clocks) (args .location) (args .number) (few .result) (unpack .result) (few .ensures) (unpack .ensures) _
+    (toZ-ofZ w16 (args .location .cost) (search needs)) (sym (occurs-in .ensures) ∙ if1 .left) (if2 .left ∙ largest-of .ensures) (pack .result)
+    (pack .ensures)
 
 pub unit-step-spec : {M : Type 1} → statement M
 unit-step-spec =

@@ -16,7 +16,11 @@ refused-requires : tie.Need-refused-requires
 refused-requires c κs = search needs
 
 returns : tie.Need-returns
-returns c = c .refused .ensures ∙ elsewhere (c .before .before .before .before .args .clocks) (c .before .before .before .before .args .edge) (c .before .before .before .before .args .target) (c .before .before .before .before .args .number) (λ q. c .before .if1 .taken (q ∙ sym (c .before .before .before .location-in .ensures)))
+returns c =
+    let args = c .before .before .before .before .args in
+    let if1 = c .before .if1 in
+    let location-in = c .before .before .before .location-in in
+    c .refused .ensures ∙ elsewhere (args .clocks) (args .edge) (args .target) (args .number) (λ q. if1 .taken (q ∙ sym (location-in .ensures)))
 
 few-requires : tie.Need-few-requires
 few-requires c κs = search needs
@@ -31,10 +35,21 @@ refused-requires-2 : tie.Need-refused-requires-2
 refused-requires-2 c κs = search needs
 
 returns-2 : tie.Need-returns-2
-returns-2 c = c .refused2 .ensures ∙ unguarded (c .before .before .before .before .before .before .before .before .before .before .args .clocks) (c .before .before .before .before .before .before .before .before .before .before .args .edge) (c .before .before .before .before .before .before .before .before .before .before .args .target) (c .before .before .before .before .before .before .before .before .before .before .args .number) (c .before .before .before .before .before .before .few .result) (c .before .before .before .before .before .unpack .result) (c .before .before .before .before .before .before .few .ensures) (c .before .before .before .before .before .unpack .ensures) (sym (c .before .before .guards-hold .ensures) ∙ not-true (c .before .before .guards-hold .result) (c .before .if2 .taken))
+returns-2 c =
+    let args = c .before .before .before .before .before .before .before .before .before .before .args in
+    let few = c .before .before .before .before .before .before .few in
+    let unpack = c .before .before .before .before .before .unpack in
+    let guards-hold = c .before .before .guards-hold in
+    let if2 = c .before .if2 in
+    c .refused2 .ensures ∙ unguarded (args .clocks) (args .edge) (args .target) (args .number) (few .result) (unpack .result) (few .ensures)
+    (unpack .ensures) (sym (guards-hold .ensures) ∙ not-true (guards-hold .result) (if2 .taken))
 
 after-edge-requires : tie.Need-after-edge-requires
-after-edge-requires c κs = (corner-of (c .before .before .before .before .unpack .result) (c .before .before .before .before .before .few .result) (c .before .before .before .before .before .before .before .before .before .args .number) (c .before .before .before .before .unpack .ensures), class-of (c .before .before .before .before .unpack .result) (c .before .before .before .before .before .few .result) (c .before .before .before .before .before .before .before .before .before .args .number) (c .before .before .before .before .unpack .ensures))
+after-edge-requires c κs =
+    let unpack = c .before .before .before .before .unpack in
+    let few = c .before .before .before .before .before .few in
+    let args = c .before .before .before .before .before .before .before .before .before .args in
+    (corner-of (unpack .result) (few .result) (args .number) (unpack .ensures), class-of (unpack .result) (few .result) (args .number) (unpack .ensures))
 
 inside-requires : tie.Need-inside-requires
 inside-requires c κs = search needs
@@ -43,13 +58,37 @@ refused-requires-3 : tie.Need-refused-requires-3
 refused-requires-3 c κs = search needs
 
 returns-3 : tie.Need-returns-3
-returns-3 c = c .refused3 .ensures ∙ outside (c .before .before .before .before .before .before .before .before .before .before .before .before .before .before .args .clocks) (c .before .before .before .before .before .before .before .before .before .before .before .before .before .before .args .edge) (c .before .before .before .before .before .before .before .before .before .before .before .before .before .before .args .target) (c .before .before .before .before .before .before .before .before .before .before .before .before .before .before .args .number) (c .before .before .before .before .before .before .before .before .before .before .few .result) (c .before .before .before .before .before .before .before .before .before .unpack .result) (c .before .before .before .before .before .before .before .before .before .before .few .ensures) (c .before .before .before .before .before .before .before .before .before .unpack .ensures) (c .before .before .before .before .after-edge .result) (c .before .before .before .before .after-edge .ensures) (sym (c .before .before .inside .ensures) ∙ not-true (c .before .before .inside .result) (c .before .if3 .taken))
+returns-3 c =
+    let args = c .before .before .before .before .before .before .before .before .before .before .before .before .before .before .args in
+    let few = c .before .before .before .before .before .before .before .before .before .before .few in
+    let unpack = c .before .before .before .before .before .before .before .before .before .unpack in
+    let after-edge = c .before .before .before .before .after-edge in
+    let inside = c .before .before .inside in
+    let if3 = c .before .if3 in
+    c .refused3 .ensures ∙ outside (args .clocks) (args .edge) (args .target) (args .number) (few .result) (unpack .result) (few .ensures)
+    (unpack .ensures) (after-edge .result) (after-edge .ensures) (sym (inside .ensures) ∙ not-true (inside .result) (if3 .taken))
 
 pack-requires : tie.Need-pack-requires
 pack-requires c κs = search needs
 
 returns-4 : tie.Need-returns-4
-returns-4 c = taken (c .before .before .before .before .before .before .before .before .before .before .before .before .before .before .before .args .clocks) (c .before .before .before .before .before .before .before .before .before .before .before .before .before .before .before .args .edge) (c .before .before .before .before .before .before .before .before .before .before .before .before .before .before .before .args .target) (c .before .before .before .before .before .before .before .before .before .before .before .before .before .before .before .args .number) (c .before .before .before .before .before .before .before .before .before .before .before .few .result) (c .before .before .before .before .before .before .before .before .before .before .unpack .result) (c .before .before .before .before .before .before .before .before .before .before .before .few .ensures) (c .before .before .before .before .before .before .before .before .before .before .unpack .ensures) (c .before .before .before .before .before .after-edge .result) (c .before .before .before .before .before .after-edge .ensures) _ (toZ-ofZ w16 (c .before .before .before .before .before .before .before .before .before .before .before .before .before .before .before .args .edge .cost) (search needs)) (c .before .before .before .before .before .before .before .before .before .before .before .before .if1 .left ∙ c .before .before .before .before .before .before .before .before .before .before .before .before .before .before .location-in .ensures) (sym (c .before .before .before .before .before .before .before .guards-hold .ensures) ∙ not-false (c .before .before .before .before .before .before .before .guards-hold .result) (c .before .before .before .before .before .before .if2 .left)) (sym (c .before .before .before .inside .ensures) ∙ not-false (c .before .before .before .inside .result) (c .before .before .if3 .left)) (c .before .pack .result) (c .before .pack .ensures)
+returns-4 c =
+    let args = c .before .before .before .before .before .before .before .before .before .before .before .before .before .before .before .args in
+    let few = c .before .before .before .before .before .before .before .before .before .before .before .few in
+    let unpack = c .before .before .before .before .before .before .before .before .before .before .unpack in
+    let after-edge = c .before .before .before .before .before .after-edge in
+    let if1 = c .before .before .before .before .before .before .before .before .before .before .before .before .if1 in
+    let location-in = c .before .before .before .before .before .before .before .before .before .before .before .before .before .before .location-in in
+    let guards-hold = c .before .before .before .before .before .before .before .guards-hold in
+    let if2 = c .before .before .before .before .before .before .if2 in
+    let inside = c .before .before .before .inside in
+    let if3 = c .before .before .if3 in
+    let pack = c .before .pack in
+    taken (args .clocks) (args .edge) (args .target) (args .number) (few .result) (unpack .result) (few .ensures) (unpack .ensures) (after-edge .result)
+    (after-edge .ensures) _ (toZ-ofZ w16 (args .edge .cost) (search needs)) (if1 .left ∙ location-in .ensures)
+    (guards-hold .result) (guards-hold .ensures)
+    (not-false (guards-hold .result) (if2 .left)) (inside .result) (inside .ensures) (not-false (inside .result) (if3 .left))
+    (pack .result) (pack .ensures)
 
 pub edge-step-spec : {M : Type 1} → statement M
 edge-step-spec =

@@ -42,7 +42,9 @@ reset-part-requires-6 : tie.Need-reset-part-requires-6
 reset-part-requires-6 c κs = search needs
 
 returns : tie.Need-returns
-returns c = cc (mask-three (stands (c .before .before .before .before .before .before .before .before .before .before .before .before .args .reset)) (c .before .before .before .before .before .before .before .before .before .before .before .before .args .t1 .whole) (search needs), mask-three (stands (c .before .before .before .before .before .before .before .before .before .before .before .before .args .reset)) (c .before .before .before .before .before .before .before .before .before .before .before .before .args .t1 .class) (search needs))
+returns c =
+    let args = c .before .before .before .before .before .before .before .before .before .before .before .before .args in
+    cc (mask-three (stands (args .reset)) (args .t1 .whole) (search needs), mask-three (stands (args .reset)) (args .t1 .class) (search needs))
 
 pub masked-spec : {M : Type 1} → statement M
 masked-spec =

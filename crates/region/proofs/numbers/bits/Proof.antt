@@ -18,7 +18,9 @@ sub-result : tie.Need-sub-result
 sub-result c = rw (one-shl 32 (c .args .width) (omega arith)) (pow-pos (c .args .width))
 
 cast-result : tie.Need-cast-result
-cast-result c = rw (low-bits (c .args .x / 2 ^ c .args .at) (c .args .width) (omega arith)) (omega (arith, low-below (c .args .x / 2 ^ c .args .at) (c .args .width) (omega arith)))
+cast-result c =
+    let args = c .args in
+    rw (low-bits (args .x / 2 ^ args .at) (args .width) (omega arith)) (omega (arith, low-below (args .x / 2 ^ args .at) (args .width) (omega arith)))
 
 returns : tie.Need-returns
 returns c = low-bits (c .args .x / 2 ^ c .args .at) (c .args .width) (omega arith)

@@ -48,7 +48,18 @@ with-part-requires-8 : tie.Need-with-part-requires-8
 with-part-requires-8 c κs = search needs
 
 returns : tie.Need-returns
-returns c = omega (arith, packed (c .before .before .before .before .before .before .before .before .before .before .before .before .before .before .before .args .n) (search needs) (search needs), c .before .before .before .before .before .before .before .before .before .before .before .before .before .with-part .ensures, c .before .before .before .before .before .before .before .before .before .before .before .with-part2 .ensures, c .before .before .before .before .before .before .before .before .before .with-part3 .ensures, c .before .before .before .before .before .before .before .with-part4 .ensures, c .before .before .before .before .before .with-part5 .ensures, c .before .before .before .with-part6 .ensures, c .before .with-part7 .ensures, c .with-part8 .ensures)
+returns c = omega (
+  arith,
+  packed (c .before .before .before .before .before .before .before .before .before .before .before .before .before .before .before .args .n) (search needs) (search needs),
+  c .before .before .before .before .before .before .before .before .before .before .before .before .before .with-part .ensures,
+  c .before .before .before .before .before .before .before .before .before .before .before .with-part2 .ensures,
+  c .before .before .before .before .before .before .before .before .before .with-part3 .ensures,
+  c .before .before .before .before .before .before .before .with-part4 .ensures,
+  c .before .before .before .before .before .with-part5 .ensures,
+  c .before .before .before .with-part6 .ensures,
+  c .before .with-part7 .ensures,
+  c .with-part8 .ensures,
+)
 
 pub pack-spec : {M : Type 1} → statement M
 pack-spec =

@@ -29,7 +29,10 @@ bits-requires-2 : tie.Need-bits-requires-2
 bits-requires-2 c κs = search needs
 
 returns : tie.Need-returns
-returns c = cc (unpacked (c .before .before .before .before .before .before .before .before .args .clocks) (c .before .before .before .before .before .before .before .before .args .x) (c .before .before .before .before .before .before .before .before .pre))
+returns c =
+    let args = c .before .before .before .before .before .before .before .before .args in
+    let pre = c .before .before .before .before .before .before .before .before .pre in
+    cc (unpacked (args .clocks) (args .x) (pre))
 
 pub unpack-spec : {M : Type 1} → statement M
 unpack-spec =

@@ -45,7 +45,11 @@ bits-requires-3 : tie.Need-bits-requires-3
 bits-requires-3 c κs = search needs
 
 returns : tie.Need-returns
-returns c = cc (closed-bits (c .before .before .before .before .args .t1) (search needs) (c .before .before .before .before .pre) (c .before .before .before .closed-entry .result) (c .before .before .before .closed-entry .ensures))
+returns c =
+    let args = c .before .before .before .before .args in
+    let pre = c .before .before .before .before .pre in
+    let closed-entry = c .before .before .before .closed-entry in
+    cc (closed-bits (args .t1) (search needs) (pre) (closed-entry .result) (closed-entry .ensures))
 
 pub close-up-spec : {M : Type 1} → statement M
 close-up-spec =

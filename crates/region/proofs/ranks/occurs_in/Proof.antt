@@ -22,7 +22,10 @@ array-read-if1 : tie.Need-array-read-if1 Inv-loop μ-loop
 array-read-if1 c = search needs
 
 returns : tie.Need-returns Inv-loop μ-loop
-returns c = sym (occurs-found (c .before .before .before .args .v) (c .before .before .before .args .t1) (c .before .before .before .args .clocks) (c .before .before .loop .j) (search needs) (search needs) (c .if1 .taken))
+returns c =
+    let args = c .before .before .before .args in
+    let loop = c .before .before .loop in
+    sym (occurs-found (args .v) (args .t1) (args .clocks) (loop .j) (search needs) (search needs) (c .if1 .taken))
 
 add-j : tie.Need-add-j Inv-loop μ-loop
 add-j c = search needs
@@ -31,10 +34,16 @@ loop-less : tie.Need-loop-less Inv-loop μ-loop
 loop-less c = search needs
 
 loop-again : tie.Need-loop-again Inv-loop μ-loop
-loop-again c = (search needs, occurs-more (c .before .before .before .args .v) (c .before .before .before .args .t1) (c .before .before .loop .j) (search needs) (c .before .before .loop .inv .1) (c .if1 .left))
+loop-again c =
+    let args = c .before .before .before .args in
+    let loop = c .before .before .loop in
+    (search needs, occurs-more (args .v) (args .t1) (loop .j) (search needs) (loop .inv .1) (c .if1 .left))
 
 returns-2 : tie.Need-returns-2 Inv-loop μ-loop
-returns-2 c = sym (occurs-all (c .before .before .args .v) (c .before .before .args .t1) (c .before .before .args .clocks) (c .before .loop .j) (search needs) (search needs) (c .before .loop .inv .1))
+returns-2 c =
+    let args = c .before .before .args in
+    let loop = c .before .loop in
+    sym (occurs-all (args .v) (args .t1) (args .clocks) (loop .j) (search needs) (search needs) (loop .inv .1))
 
 pub occurs-in-spec : {M : Type 1} → statement M
 occurs-in-spec =

@@ -36,16 +36,20 @@ loop-less c = search needs
 
 loop-again : tie.Need-loop-again Inv-loop μ-loop
 loop-again c =
-    let l = c .before .before .before .loop in
-    let a = c .before .before .before .before .args in
-    let o = c .before .occurs-in in (
+    let loop = c .before .before .before .loop in
+    let args = c .before .before .before .before .args in
+    let occurs-in = c .before .occurs-in in
+    let if1 = c .if1 in
+    let l = loop in
+    let a = args in
+    let o = occurs-in in (
       search needs,
       (
-        ⊎-elim (λ w. omega arith) (λ w. omega arith) (c .if1 .came),
+        ⊎-elim (λ w. omega arith) (λ w. omega arith) (if1 .came),
         ⊎-elim
             (λ w. w .1 ∙ rank-counts (a .class) (search needs) (l .v) (l .n) (l .inv .1 .1) (sym (o .ensures) ∙ w .0 .taken))
             (λ w. w .1 ∙ rank-passes (a .class) (search needs) (l .v) (l .n) (l .inv .1 .1) (sym (o .ensures) ∙ w .0 .left))
-            (c .if1 .came),
+            (if1 .came),
       ),
     )
 
