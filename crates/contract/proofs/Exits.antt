@@ -6,7 +6,7 @@ use mathlib.Core.Option.{Option}
 use Prim.Native.Nat.{ℕ, _+_, _≤_, _<_}
 use native.Mathlib.Omega.{arith}
 use lib.IntN.{ℤ, pos}
-use lib.ListN.{length, take, length-take, length-replicate}
+use lib.ListN.{length, length-replicate}
 use Rattle.automaton.specs.Priced.{Priced}
 use Rattle.automaton.specs.Walks.{ReachableCycle}
 use Rattle.automaton.specs.Weights.{Feasible}
@@ -15,12 +15,12 @@ use Rattle.sheet.specs.Questions.{checkOf}
 use Rattle.nodes.specs.Meaning.{meaning, layoutOf}
 use Rattle.nodes.proofs.NumberLaws.{no-loop-below-numbers}
 use Rattle.nodes.proofs.CheckedLaws.{sound, room}
-use Rattle.walks.specs.Weight.{NegativeCycle, NoneNegative}
+use Rattle.walks.specs.Cycles.{Acyclic, Idle}
 use Rattle.contract.specs.Questions.{TooMany, IdleCycle, too-many, no-cycle, idle-cycle, all-yes}
 use Rattle.contract.specs.Accepted.{Accepted}
 use Rattle.contract.specs.Plan.{refused, Buffers, zeros, LongEnough, SameLengths, stepOn, startOf, Judged, too-short, faulty, explored, Planned}
 use Rattle.contract.specs.Explored.{Found, Explored, Overfull}
-use Rattle.contract.proofs.Hand.{weight13, weight14, InHand}
+use Rattle.contract.proofs.Hand.{InHand}
 use Rattle.contract.proofs.Checks.{check-low}
 use Rattle.contract.proofs.Counts as Counts
 use Rattle.contract.proofs.Arcs as Arcs
@@ -82,16 +82,15 @@ module _ (bytes : List ℕ) (b : Buffers) where
         few : ¬ TooMany (stepOn bytes) (startOf bytes)
         few = Counts.few-listed (stepOn bytes) (startOf bytes) (g .node) (g .n) (x .few) (Arcs.listed x)
 
-        -- question 13: the search with weight13 ended with potentials
-        pub no-cycle-reachable : NoneNegative (g .from) (g .to) (g .m) (weight13 g) → Planned bytes b (zeros b) (refused 13)
+        -- question 13
+        pub no-cycle-reachable : Acyclic (g .from) (g .to) (g .m) → Planned bytes b (zeros b) (refused 13)
         no-cycle-reachable none = set-to-zero bytes b 13 (omega arith)
             (explored long checked (no-cycle refl few (Searches.no-cycle x none)))
 
-        -- question 14: the search with weight14 found a cycle, the first k entries of a list
-        pub cycle-earns-nothing : (k : ℕ) (l : List ℕ) → k ≤ g .n → NegativeCycle (g .from) (g .to) (g .m) (weight14 g) (take k l)
-            → Planned bytes b (zeros b) (refused 14)
-        cycle-earns-nothing k l h o = set-to-zero bytes b 14 (omega arith) (explored long checked (idle-cycle refl few
-            (Searches.some-cycle x (weight14 g) (take k l) o) (Searches.idle-cycle x (take k l) o (omega (arith, length-take k l, x .few)))))
+        -- question 14
+        pub cycle-earns-nothing : Idle (g .from) (g .to) (g .m) (g .reward) → Planned bytes b (zeros b) (refused 14)
+        cycle-earns-nothing o = set-to-zero bytes b 14 (omega arith)
+            (explored long checked (idle-cycle refl few (Searches.some-cycle x (o .arcs) (o .cycle)) (Searches.idle-cycle x o)))
 
 -- accepted
 module _ (bytes : List ℕ) (before after : Buffers) (g : Found) (p : ℤ) (q : ℕ) (D : List ℤ) (order stem cycle : List ℕ)
@@ -110,7 +109,7 @@ module _ (bytes : List ℕ) (before after : Buffers) (g : Found) (p : ℤ) (q : 
       (record { path = stem; walk = h .lasso .stem }) (record { some = h .lasso .some; walk = h .lasso .cycle })
 
   none-idle : ¬ IdleCycle step start
-  none-idle = Searches.none-idle x (h .none-idle)
+  none-idle = Searches.none-idle x (h .earns)
 
   earns : 0 < Arcs.rewardOf g cycle
   earns = Accepting.earns x none-idle (Arcs.costOf g cycle) (Arcs.rewardOf g cycle) reachable-cycle

@@ -4,27 +4,18 @@
 use mathlib.Core.Path.{_≡_}
 use mathlib.Core.List.{List, _++_}
 use Prim.Native.Nat.{ℕ, _+_, _≤_, _<_}
-use lib.IntN.{ℤ, pos, negsuc, negℤ, _*ℤ_}
+use lib.IntN.{ℤ, pos, negℤ, _*ℤ_}
 use lib.ListN.{length}
 use Rattle.integers.specs.Lowest.{Lowest}
 use Rattle.sheet.specs.Questions.{checkOf}
 use Rattle.walks.specs.Walk.{at, atℤ}
-use Rattle.walks.specs.Weight.{weightOf, sum, total, NoneNegative, Potential}
+use Rattle.walks.specs.Weight.{weightOf, sum, total, Potential}
+use Rattle.walks.specs.Cycles.{EachEarns}
 use Rattle.walks.proofs.Lassos.{Lasso}
 use Rattle.contract.specs.Plan.{Buffers, LongEnough, SameLengths, stepOn, startOf}
 use Rattle.contract.specs.Explored.{Found, Explored}
 
--- ---- the weights that the searches go by, as `graph::negative_cycle` takes them
-
--- question 13, coefficients 0, 0, −1: every cycle is negative
-abbrev pub weight13 : Found → ℕ → ℤ
-weight13 g = weightOf (pos 0) (pos 0) (negsuc 0) (g .cost) (g .reward)
-
--- question 14, coefficients 0, 2049, −1: a cycle of at most 2,048 arcs is negative just where it earns nothing
-abbrev pub weight14 : Found → ℕ → ℤ
-weight14 g = weightOf (pos 0) (pos 2049) (negsuc 0) (g .cost) (g .reward)
-
--- the ratio p/q, coefficients q, −p, 0: a cycle is negative just where its ratio is below
+-- the weights at the ratio p/q, coefficients q, −p and 0: a cycle is negative just where its ratio is below
 abbrev pub weightAt : ℤ → ℕ → Found → ℕ → ℤ
 weightAt p q g = weightOf (pos q) (negℤ p) (pos 0) (g .cost) (g .reward)
 
@@ -42,10 +33,9 @@ pub record InHand (bytes : List ℕ) (before after : Buffers) (g : Found) (p : �
   -- so is question 12, since exploring ended. Exploring by the decoded sheet: `DecodedSheets.explored-read`. Where the
   -- lists are longer than m, g is the cut one: `Graphs.explored-cut`. That the search takes its lists as a graph: `Graphs.graph`.
   pub explored : Explored (stepOn bytes) (startOf bytes) g
-  -- so is question 13, since there is the lasso; and question 14, since its search ended with potentials (`PotentialsFound`, none).
-  -- Then each cycle of arcs earns: `Searches.cycle-earns`.
-  pub none-idle : NoneNegative (g .from) (g .to) (g .m) (weight14 g)
-  -- the last search, at p/q, ended with potentials (`PotentialsFound`, potentials)
+  -- so is question 13, since there is the lasso; and question 14
+  pub earns : EachEarns (g .from) (g .to) (g .m) (g .reward)
+  -- the potentials at p/q
   pub potentials : (v : ℕ) → v < g .n → Potential (g .from) (g .to) (g .m) (weightAt p q g) v (atℤ D v)
   -- p/q is the ratio of the lasso's cycle, in lowest terms. A cycle turned has the same: `Graphs.exact-turned`.
   pub lowest : Lowest p q

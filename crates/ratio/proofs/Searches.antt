@@ -11,7 +11,7 @@ use Rattle.integers.proofs.Products.{up-times, dn-times}
 use Rattle.walks.specs.Walk.{at, atℤ}
 use Rattle.walks.specs.Weight.{weightOf, sum, total, NoneNegative, NegativeCycle}
 use Rattle.walks.proofs.Weights.{weight-sum}
-use Rattle.ratio.specs.Answer.{SimpleCycle, Acyclic, EachEarns, Idle}
+use Rattle.walks.specs.Cycles.{SimpleCycle, Acyclic, EachEarns, Idle}
 
 -- the cycle that a search found
 pub simple-of : (F T : List ℕ) (m : ℕ) (weight : ℕ → ℤ) (c : List ℕ) → NegativeCycle F T m weight c → SimpleCycle F T m c

@@ -76,6 +76,7 @@ module _ (F T : List ℕ) (cost : List ℤ) (reward : List ℕ) (n a b : ℕ) (r
       in-hand = same-room F T n hand hand' k (g .kept) h;
       ratio = subst (λ (l : List ℕ). RatioOf cost reward (take k l) p q) (sym (g .kept)) (record { lowest = f .lowest; exact = f .exact });
       p-small = p-small;
+      q-small = q-small;
       none-below = g .none;
       potentials = g .potentials;
       rest = g .rest;

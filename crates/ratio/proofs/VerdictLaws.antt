@@ -10,7 +10,8 @@ use Rattle.walks.specs.Form.{Graph}
 use Rattle.graph.specs.Answer as Search
 use Rattle.graph.specs.declared.Answer.{Answer}
 use Rattle.graph.specs.declared.Answer.the-variants.{Malformed, Cycle, Potentials}
-use Rattle.ratio.specs.Answer.{SimpleCycle, EachEarns, Idle, RatioOf, RatioFound}
+use Rattle.walks.specs.Cycles.{SimpleCycle, EachEarns, Idle}
+use Rattle.ratio.specs.Answer.{RatioOf, RatioFound}
 use Rattle.ratio.specs.Turns.{InHand, Settled}
 use Rattle.ratio.proofs.Searches.{simple-of, idle}
 use Rattle.walks.specs.Weight.{weightOf}
@@ -59,6 +60,8 @@ ratio-found F T cost reward n potential potential' hand cycle cycle' p q k earns
   short = s .in-hand .short;
   attained = subst (SimpleCycle F T (length F)) (sym front) (s .in-hand .cycle);
   ratio = subst (λ (c : List ℕ). RatioOf cost reward c p q) (sym front) (s .ratio);
+  p-small = s .p-small;
+  q-small = s .q-small;
   earns = earns;
   none-below = s .none-below;
   potentials = s .potentials;

@@ -3,10 +3,11 @@ use mathlib.Core.Path.{_≡_}
 use mathlib.Core.List.{List}
 use Prim.Native.Nat.{ℕ, _≤_, _<_}
 use lib.ListN.{length, take, drop}
-use lib.IntN.{ℤ, pos, negℤ, _*ℤ_}
+use lib.IntN.{ℤ, pos, negℤ, natAbs, _*ℤ_}
 use Rattle.integers.specs.Lowest.{Lowest}
-use Rattle.walks.specs.Walk.{at, atℤ, Reached, Cycle, Distinct}
+use Rattle.walks.specs.Walk.{at, atℤ}
 use Rattle.walks.specs.Weight.{weightOf, sum, total, NoneNegative, Potential}
+use Rattle.walks.specs.Cycles.{SimpleCycle, Acyclic, EachEarns, Idle}
 use Rattle.walks.specs.Form.{Graph}
 use Rattle.ratio.specs.declared.Verdict.{Verdict}
 use Rattle.ratio.specs.declared.Verdict.the-variants.{Malformed, NoCycle, NoReward, Ratio}
@@ -16,27 +17,6 @@ pub record WellFormed (F T : List ℕ) (cost : List ℤ) (reward : List ℕ) (n 
   pub graph : Graph F T cost reward n
   pub potential-room : n ≤ potentials
   pub cycle-room : n ≤ arcs
-
--- c is a simple cycle that a walk from the start reaches
-pub record SimpleCycle (F T : List ℕ) (m : ℕ) (c : List ℕ) : Type 0 where
-  pub hub : ℕ
-  pub reached : Reached F T m hub
-  pub cycle : Cycle F T m hub c
-  pub simple : Distinct F c
-
--- question 13 answered no: no walk from the start reaches a cycle
-abbrev pub Acyclic : List ℕ → List ℕ → ℕ → Type 0
-Acyclic F T m = (x : ℕ) (c : List ℕ) → Reached F T m x → Cycle F T m x c → ⊥
-
--- question 14 answered yes: each cycle that a walk from the start reaches earns more than 0
-abbrev pub EachEarns : List ℕ → List ℕ → ℕ → List ℕ → Type 0
-EachEarns F T m reward = (x : ℕ) (c : List ℕ) → Reached F T m x → Cycle F T m x c → 0 < total (at reward) c
-
--- question 14 answered no
-pub record Idle (F T : List ℕ) (m : ℕ) (reward : List ℕ) : Type 0 where
-  pub arcs : List ℕ
-  pub cycle : SimpleCycle F T m arcs
-  pub no-reward : total (at reward) arcs ≡ 0
 
 -- p / q is the ratio of the cycle c, in lowest terms
 pub record RatioOf (cost : List ℤ) (reward c : List ℕ) (p : ℤ) (q : ℕ) : Type 0 where
@@ -49,6 +29,8 @@ pub record RatioFound (F T : List ℕ) (cost : List ℤ) (reward : List ℕ) (n 
   pub short : k ≤ n
   pub attained : SimpleCycle F T (length F) (take k cycle')
   pub ratio : RatioOf cost reward (take k cycle') p q
+  pub p-small : natAbs p ≤ 20480000
+  pub q-small : q ≤ 20480000
   pub earns : EachEarns F T (length F) reward
   pub none-below : NoneNegative F T (length F) (weightOf (pos q) (negℤ p) (pos 0) cost reward)
   pub potentials : (v : ℕ) → v < n → Potential F T (length F) (weightOf (pos q) (negℤ p) (pos 0) cost reward) v (atℤ potential' v)

@@ -8,7 +8,8 @@ use Rattle.integers.specs.Lowest.{Lowest}
 use lib.Signed.{_<ℤ_}
 use Rattle.walks.specs.Walk.{at, atℤ}
 use Rattle.walks.specs.Weight.{weightOf, sum, total, NoneNegative, Potential}
-use Rattle.ratio.specs.Answer.{WellFormed, SimpleCycle, EachEarns, RatioOf}
+use Rattle.walks.specs.Cycles.{SimpleCycle, EachEarns}
+use Rattle.ratio.specs.Answer.{WellFormed, RatioOf}
 use Rattle.ratio.specs.declared.improve.Turn.{Turn}
 use Rattle.ratio.specs.declared.improve.Turn.the-variants.{Better, Done}
 
@@ -48,6 +49,7 @@ pub record Settled (F T : List ℕ) (cost : List ℤ) (reward : List ℕ) (n : �
   pub in-hand : InHand F T n hand k
   pub ratio : RatioOf cost reward (take k hand) p q
   pub p-small : natAbs p ≤ 20480000
+  pub q-small : q ≤ 20480000
   pub none-below : NoneNegative F T (length F) (weightOf (pos q) (negℤ p) (pos 0) cost reward)
   pub potentials : (v : ℕ) → v < n → Potential F T (length F) (weightOf (pos q) (negℤ p) (pos 0) cost reward) v (atℤ potential' v)
   pub rest : drop n potential' ≡ drop n potential
