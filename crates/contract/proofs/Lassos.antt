@@ -8,13 +8,11 @@ use native.Mathlib.Omega.{arith}
 use lib.IntN.{ℤ, pos, _*ℤ_}
 use lib.ListN.{length, take, drop, length-append, length-map}
 use lib.Seq.{slice, take-take, take-append-seam, drop-append-seam, getD-take, ext-getD, length-take-le}
-use Rattle.integers.proofs.Pigeonhole.{pigeon}
 use Rattle.automaton.specs.Priced.{Priced, chain}
 use Rattle.automaton.specs.Walks.{Walk}
 use Rattle.automaton.proofs.Chains.{some-inj}
 use Rattle.walks.specs.Walk as Graph
 use Rattle.walks.specs.Walk.{at}
-use Rattle.walks.proofs.Walks.{walk-append, walk-arc}
 use Rattle.walks.proofs.Lassos as GraphLassos
 use Rattle.contract.specs.Accepted.{Lasso}
 use Rattle.contract.specs.Explored.{Found, Explored}
@@ -49,14 +47,13 @@ module _ {step : ℕ → ℕ → Option (Priced ℕ)} {start : ℕ} {g : Found} 
   all = length-append stem cycle
 
   whole : Graph.Walk (g .from) (g .to) (g .m) 0 arcs (o .hub)
-  whole = walk-append (g .from) (g .to) (g .m) 0 stem (o .hub) cycle (o .hub) (o .stem) (o .cycle)
+  whole = GraphLassos.lasso-walk (g .from) (g .to) (g .m) stem cycle o
 
   source-below : (i : ℕ) → i < size → at (g .from) (at arcs i) < g .n
-  source-below i h = x .source (at arcs i) (walk-arc (g .from) (g .to) (g .m) 0 arcs (o .hub) whole i (omega (arith, all)))
+  source-below i h = x .source (at arcs i) (GraphLassos.lasso-arc (g .from) (g .to) (g .m) stem cycle o i h)
 
   pub short : size ≤ g .n
-  short = pigeon size (g .n) (λ i. at (g .from) (at arcs i)) source-below
-      (λ i j hi hj. o .simple i j (omega (arith, all)) (omega (arith, all)))
+  short = GraphLassos.lasso-short (g .from) (g .to) (g .m) stem cycle o (g .n) (x .source)
 
   module _ (steps : List ℕ) (room : size ≤ length steps) (codes : (i : ℕ) → i < size → at steps i ≡ at (g .code) (at arcs i)) where
     whole-codes : take size steps ≡ codesOf g arcs

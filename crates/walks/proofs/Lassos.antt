@@ -10,7 +10,8 @@ use lib.ListN.{length, length-append, List·getD-append}
 use lib.Seq.{getD-append-add}
 use Rattle.walks.specs.Walk.{at, Walk, Distinct}
 pub use Rattle.walks.specs.Lasso.{Lasso, Rising}
-use Rattle.walks.proofs.Walks.{walk-append}
+use Rattle.integers.proofs.Pigeonhole.{pigeon}
+use Rattle.walks.proofs.Walks.{walk-append, walk-arc}
 
 -- ---- lists of arcs that leave distinct nodes
 
@@ -86,3 +87,16 @@ module _ (F T : List ℕ) (m : ℕ) where
     simple = distinct-append F s (q ++ p) (rise-distinct 0 s h stem rise) (distinct-turn F p q dis)
         (λ i j hi hj e. omega (arith, rise-in 0 s h stem rise i hi, first j hj));
   }
+
+-- ---- stem and cycle together
+module _ (F T : List ℕ) (m : ℕ) (s c : List ℕ) (o : Lasso F T m s c) where
+  pub lasso-walk : Walk F T m 0 (s ++ c) (o .hub)
+  lasso-walk = walk-append F T m 0 s (o .hub) c (o .hub) (o .stem) (o .cycle)
+
+  pub lasso-arc : (i : ℕ) → i < length s + length c → at (s ++ c) i < m
+  lasso-arc i h = walk-arc F T m 0 (s ++ c) (o .hub) lasso-walk i (omega (arith, length-append s c))
+
+  -- the arcs leave distinct nodes, so there are no more of them than nodes
+  pub lasso-short : (n : ℕ) → ((e : ℕ) → e < m → at F e < n) → length s + length c ≤ n
+  lasso-short n sources = pigeon (length s + length c) n (λ i. at F (at (s ++ c) i)) (λ i h. sources (at (s ++ c) i) (lasso-arc i h))
+      (λ i j hi hj. o .simple i j (omega (arith, length-append s c)) (omega (arith, length-append s c)))

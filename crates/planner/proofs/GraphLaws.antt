@@ -1,0 +1,82 @@
+-- What `least_ratio` answered of the graph, and the ways out with a refusal.
+use mathlib.Core.Path.{_≡_, sym, ap, _∙_, subst}
+use mathlib.Core.List.{List}
+use Prim.Native.Nat.{ℕ, _≤_, _<_}
+use native.Mathlib.Omega.{arith}
+use lib.IntN.{ℤ, pos}
+use lib.ListN.{length, take, replicate}
+use lib.Seq.{length-take-le, getD-take}
+use mir.Syntax.{w64}
+use mir.Val.{toZ, ofZ}
+use mir.ValLaws.{toZ-ofZ}
+use Rattle.integers.proofs.Machine.{small}
+use Rattle.walks.specs.Walk.{at}
+use Rattle.walks.specs.Cycles.{Acyclic, Idle}
+use Rattle.walks.proofs.Walks.{walk-arc}
+use Rattle.ratio.specs.Answer.{RatioFound, Judged}
+use Rattle.ratio.specs.declared.Verdict.{Verdict}
+use Rattle.ratio.specs.declared.Verdict.the-variants.{Malformed, NoCycle, NoReward, Ratio}
+use Rattle.ratio.proofs.VerdictLaws.{room}
+use Rattle.contract.specs.Plan.{Answer, refused, Buffers, zeros, SameLengths, Planned}
+use Rattle.planner.specs.Lent.{lent}
+use Rattle.planner.specs.Hands.{Handed, Cyclic}
+
+-- a refusal that clears the buffers
+pub refused-planned : (bytes : List ℕ) (before : Buffers) (N : List ℕ) (P : List ℤ) (S N' : List ℕ) (P' : List ℤ) (S' : List ℕ) (r : ℕ) (a : Answer)
+    → SameLengths (lent N P S) before → N' ≡ replicate (length N) 0 → P' ≡ replicate (length P) (pos 0) → S' ≡ replicate (length S) 0 → a ≡ refused r
+    → Planned bytes before (zeros before) (refused r) → Planned bytes before (lent N' P' S') a
+refused-planned bytes before N P S N' P' S' r a l en ep es ea h =
+    rw (en ∙ ap (λ (n : ℕ). replicate n 0) (l .nodes), ep ∙ ap (λ (n : ℕ). replicate n (pos 0)) (l .potentials), es ∙ ap (λ (n : ℕ). replicate n 0) (l .steps), ea) h
+
+module _ (F T C : List ℕ) (Z : List ℤ) (R order tree : List ℕ) (n : ℕ) (h : Handed F T C Z R order tree n) (D : List ℤ) (cycle : List ℕ) (W : Verdict)
+    (z : Judged F T Z R n (replicate 2048 (pos 0)) D (replicate 2048 0) cycle W) where
+  abbrev Is : Verdict → Type 0
+  Is = Judged F T Z R n (replicate 2048 (pos 0)) D (replicate 2048 0) cycle
+
+  pub never : W ≡ Malformed → ⊥
+  never e = subst Is e z .0
+      (record { graph = h .graph; potential-room = room (pos 0) (h .graph .nodes); cycle-room = room {A = ℕ} 0 (h .graph .nodes) })
+
+  pub acyclic : W ≡ NoCycle → Acyclic F T (length F)
+  acyclic e = subst Is e z .1
+
+  pub idle : W ≡ NoReward → Idle F T (length F) R
+  idle e = subst Is e z .1
+
+  module _ (p : ℤ) (q k : ℕ) (e : W ≡ Ratio p q k) where
+    pub least : RatioFound F T Z R n p q k (replicate 2048 (pos 0)) D (replicate 2048 0) cycle
+    least = subst Is e z .1
+
+    -- with the numerator as it is read back
+    pub least-again : RatioFound F T Z R n (toZ w64 (ofZ w64 p)) q k (replicate 2048 (pos 0)) D (replicate 2048 0) cycle
+    least-again = subst (λ (y : ℤ). RatioFound F T Z R n y q k (replicate 2048 (pos 0)) D (replicate 2048 0) cycle)
+        (sym (toZ-ofZ w64 p (small p 20480001 (omega (arith, least .p-small)) (omega arith)))) least
+
+    pub cyclic : length cycle ≡ 2048 → Cyclic F T C order tree cycle n k
+    cyclic sized = record {
+      formed = record {
+        few = h .graph .nodes;
+        tos = h .graph .tos;
+        tree-room = h .tree-room;
+        tree-arcs = h .tree-arcs;
+        some = omega (arith, least .attained .cycle .some, front);
+        cycle-room = fits;
+        cycle-arcs = λ i l. record { arc = arc i l; source = h .graph .arc (at cycle i) (arc i l) .source };
+        arcs-room = omega (arith, h .graph .nodes, least .short);
+      };
+      simple = least .attained;
+      sources = λ a l. h .graph .arc a l .source;
+      codes = h .codes;
+      ordered = h .ordered;
+      order-below = h .order-below;
+    }
+      where
+        fits : k ≤ length cycle
+        fits = omega (arith, h .graph .nodes, least .short)
+
+        front : length (take k cycle) ≡ k
+        front = length-take-le k cycle fits
+
+        arc : (i : ℕ) → i < k → at cycle i < length F
+        arc i l = subst (λ (a : ℕ). a < length F) (getD-take k cycle i 0 l)
+            (walk-arc F T (length F) (least .attained .hub) (take k cycle) (least .attained .hub) (least .attained .cycle .walk) i (omega (arith, front)))

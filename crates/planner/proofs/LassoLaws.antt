@@ -1,0 +1,78 @@
+-- The arcs that `lasso_of` laid out: a lasso, no longer than there are nodes, of arcs of the graph.
+use mathlib.Core.Path.{_≡_, sym, ap, ap₂, _∙_, subst}
+use mathlib.Core.List.{List, _++_}
+use Prim.Native.Nat.{ℕ, _+_, _-_, _≤_, _<_}
+use native.Mathlib.Omega.{arith}
+use lib.IntN.{ℤ, pos, _*ℤ_}
+use lib.ListN.{length, take, replicate, length-replicate}
+use lib.Seq.{slice, length-take-le, length-slice, getD-take}
+use Rattle.walks.specs.Walk.{at, atℤ}
+use Rattle.walks.specs.Weight.{sum, total}
+use Rattle.walks.specs.Lasso.{Lasso}
+use Rattle.walks.proofs.Lassos.{lasso-arc, lasso-short}
+use Rattle.walks.proofs.Trees.{slice-join}
+use Rattle.lasso.specs.Answer.{WellFormed, LaidOut, Answered}
+use Rattle.lasso.specs.declared.Answer.{Answer}
+use Rattle.lasso.specs.declared.Answer.the-variants.{Malformed, Laid}
+use Rattle.lasso.proofs.Laying.{lasso-laid}
+use Rattle.contract.specs.Explored.{Found}
+use Rattle.contract.proofs.Graphs.{exact-turned}
+use Rattle.planner.specs.Hands.{Cyclic, Pickable}
+
+module _ (F T C order tree cycle : List ℕ) (n k s : ℕ) (arcs arcs' : List ℕ) (c : Cyclic F T C order tree cycle n k)
+    (sized : length arcs' ≡ 4096) (laid : LaidOut F T cycle n k s arcs arcs') where
+  abbrev pub stem : List ℕ
+  stem = take s arcs'
+
+  abbrev pub turned : List ℕ
+  turned = slice s (s + k) arcs'
+
+  room : s + k ≤ 4096
+  room = omega (arith, laid .short, c .formed .arcs-room)
+
+  pub stem-sized : length stem ≡ s
+  stem-sized = length-take-le s arcs' (omega (arith, room))
+
+  pub turned-sized : length turned ≡ k
+  turned-sized = length-slice s (s + k) arcs' (omega (arith, room)) ∙ omega arith
+
+  pub is-lasso : Lasso F T (length F) stem turned
+  is-lasso = lasso-laid F T cycle n k s arcs arcs' (c .simple .hub) (c .formed .cycle-room) laid (c .simple .cycle .walk) (c .simple .simple)
+
+  pub short : s + k ≤ n
+  short = omega (arith, lasso-short F T (length F) stem turned is-lasso n (c .sources), stem-sized, turned-sized)
+
+  -- the arcs in order
+  pub joined-at : (i : ℕ) → i < s + k → at (stem ++ turned) i ≡ at arcs' i
+  joined-at i h = ap (λ (l : List ℕ). at l i) (sym (slice-join 0 s (s + k) arcs' (omega arith) (omega arith))) ∙ getD-take (s + k) arcs' i 0 h
+
+  pub codes-pickable : (steps : List ℕ) → 2048 ≤ length steps → Pickable C arcs' (s + k) steps
+  codes-pickable steps h = record {
+    named = omega (arith, room);
+    there = λ i l. omega (
+      arith,
+      sym (joined-at i l),
+      c .codes,
+      lasso-arc F T (length F) stem turned is-lasso i (omega (arith, stem-sized, turned-sized)),
+    );
+    room = omega (arith, short, c .formed .few);
+  }
+
+  -- the turned cycle has the cycle's ratio
+  pub turned-exact : (g : Found) (p : ℤ) (q : ℕ) → pos q *ℤ sum (atℤ (g .cost)) (take k cycle) ≡ p *ℤ pos (total (at (g .reward)) (take k cycle))
+      → pos q *ℤ sum (atℤ (g .cost)) turned ≡ p *ℤ pos (total (at (g .reward)) turned)
+  turned-exact g p q e =
+      subst Exact (sym (laid .turned)) (exact-turned g (take (laid .turn) cycle) (slice (laid .turn) k cycle) p q
+      (subst Exact (slice-join 0 (laid .turn) k cycle (omega arith) (omega (arith, laid .below))) e))
+    where
+      Exact : List ℕ → Type 0
+      Exact l = pos q *ℤ sum (atℤ (g .cost)) l ≡ p *ℤ pos (total (at (g .reward)) l)
+
+-- by what `lasso_of` answered
+module _ (F T tree cycle : List ℕ) (n k : ℕ) (arcs' : List ℕ) (A : Answer) (z : Answered F T tree cycle n k (replicate 4096 0) arcs' A) where
+  pub never : A ≡ Malformed → WellFormed F T tree cycle n k 4096 → ⊥
+  never e w = subst (Answered F T tree cycle n k (replicate 4096 0) arcs') e z .0
+      (subst (WellFormed F T tree cycle n k) (sym (length-replicate {A = ℕ} 4096 0)) w)
+
+  pub laid-of : (s : ℕ) → A ≡ Laid s → LaidOut F T cycle n k s (replicate 4096 0) arcs'
+  laid-of s e = subst (Answered F T tree cycle n k (replicate 4096 0) arcs') e z .1

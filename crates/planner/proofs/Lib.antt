@@ -1,0 +1,5 @@
+pub mod ListLaws
+pub mod LassoLaws
+pub mod AcceptLaws
+pub mod GraphLaws
+pub mod SheetLaws

@@ -1,0 +1,98 @@
+-- What `explore` answered of a sheet, with its buffers cut to the arcs.
+use mathlib.Core.Path.{_≡_, sym, _∙_, subst}
+use mathlib.Core.List.{List}
+use Prim.Native.Nat.{ℕ, _≤_, _<_}
+use native.Mathlib.Omega.{arith}
+use lib.IntN.{ℤ, pos}
+use lib.ListN.{length, take, replicate, length-replicate}
+use lib.Seq.{getD-take, length-take-le}
+use Rattle.sheet.specs.declared.Sheet.{Sheet}
+use Rattle.sheet.specs.Decoded.{readOf}
+use Rattle.walks.specs.Walk.{at}
+use Rattle.lasso.specs.Answer.{TreeArc}
+use Rattle.contract.specs.Plan as Contract
+use Rattle.contract.specs.Plan.{stepOn, startOf}
+use Rattle.contract.specs.Explored.{Found, Explored, Overfull, stepRead, startRead}
+use Rattle.contract.proofs.Hand.{Sorted}
+use Rattle.contract.proofs.Graphs.{Room, cut, explored-cut, graph}
+use Rattle.contract.proofs.DecodedSheets.{explored-read, overfull-read}
+use Rattle.explore.specs.Buffers.{Buffers, buffers, found, LongEnough}
+use Rattle.explore.specs.Answer.{Filled, Answered}
+use Rattle.explore.specs.declared.Outcome.{Outcome}
+use Rattle.explore.specs.declared.Outcome.the-variants.{Malformed, TooMany, Graph}
+use Rattle.planner.specs.Hands.{ReadFrom, Handed, OfSheet}
+
+-- the buffers as `explore` finds them: new ones, but for the lent one that takes the numbers in rising order
+abbrev pub fresh : List ℕ → Buffers
+fresh N = buffers (replicate 2048 0) N (replicate 2048 0) (replicate 2048 0)
+    (replicate 69632 0) (replicate 69632 0) (replicate 69632 0) (replicate 69632 (pos 0)) (replicate 69632 0)
+
+pub fresh-long : (N : List ℕ) → 2048 ≤ length N → LongEnough (fresh N)
+fresh-long N h = record {
+  node = omega (arith, length-replicate {A = ℕ} 2048 0);
+  sorted = h;
+  order = omega (arith, length-replicate {A = ℕ} 2048 0);
+  tree = omega (arith, length-replicate {A = ℕ} 2048 0);
+  from = omega (arith, length-replicate {A = ℕ} 69632 0);
+  to = omega (arith, length-replicate {A = ℕ} 69632 0);
+  code = omega (arith, length-replicate {A = ℕ} 69632 0);
+  cost = omega (arith, length-replicate {A = ℤ} 69632 (pos 0));
+  reward = omega (arith, length-replicate {A = ℕ} 69632 0);
+}
+
+module _ (read : Sheet) (N : List ℕ) (b : Buffers) (A : Outcome) (z : Answered (stepRead read) (startRead read) (fresh N) b A) where
+  abbrev Is : Outcome → Type 0
+  Is = Answered (stepRead read) (startRead read) (fresh N) b
+
+  pub never : A ≡ Malformed → 2048 ≤ length N → ⊥
+  never e h = subst Is e z .0 (fresh-long N h)
+
+  pub overfull : A ≡ TooMany → (o : ReadFrom read) → Overfull (stepOn (o .bytes)) (startOf (o .bytes)) (b .node)
+  overfull e o = overfull-read (o .bytes) (o .checked)
+      (subst (λ (s : Sheet). Overfull (stepRead s) (startRead s) (b .node)) (o .is) (subst Is e z .1 .overfull))
+
+  module _ (n m : ℕ) (e : A ≡ Graph n m) where
+    pub filled : Filled (fresh N) b n m
+    filled = subst Is e z .2
+
+    pub explored : (o : ReadFrom read) → Explored (stepOn (o .bytes)) (startOf (o .bytes)) (found b n m)
+    explored o = explored-read (o .bytes) (o .checked)
+        (subst (λ (s : Sheet). Explored (stepRead s) (startRead s) (found b n m)) (o .is) (subst Is e z .1))
+
+    pub few-arcs : (o : ReadFrom read) → m ≤ 69632
+    few-arcs o = omega (arith, filled .few-arcs, explored o .few)
+
+    module _ (o : ReadFrom read) (r : Room (found b n m)) (codes : m ≤ length (b .code)) (order : n ≤ length (b .order)) (tree : n ≤ length (b .tree)) where
+      arcs : length (take m (b .from)) ≡ m
+      arcs = length-take-le m (b .from) (r .from)
+
+      tree-arc : (v : ℕ) → 0 < v → v < n → TreeArc (take m (b .from)) (take m (b .to)) (b .tree) v
+      tree-arc v p h = let l = filled .tree .arc v h p in record {
+        arc = omega (arith, arcs, l);
+        ends = getD-take m (b .to) (at (b .tree) v) 0 l ∙ filled .tree .ends v h p;
+        earlier = omega (arith, getD-take m (b .from) (at (b .tree) v) 0 l, filled .tree .earlier v h p);
+      }
+
+      pub handed : Handed (take m (b .from)) (take m (b .to)) (take m (b .code)) (take m (b .cost)) (take m (b .reward)) (b .order) (b .tree) n
+      handed = record {
+        graph = graph (o .bytes) (o .checked) r (explored o);
+        codes = length-take-le m (b .code) codes ∙ sym arcs;
+        ordered = order;
+        order-below = filled .index .below;
+        tree-room = tree;
+        tree-arcs = tree-arc;
+      }
+
+      abbrev pub of-sheet : (before lent : Contract.Buffers) → Contract.LongEnough before → Contract.SameLengths lent before → lent .nodes ≡ b .sorted
+          → OfSheet (take m (b .from)) (take m (b .to)) (take m (b .code)) (take m (b .cost)) (take m (b .reward)) (b .order) n lent
+      of-sheet before lent long same is = record {
+        bytes = o .bytes;
+        before = before;
+        node = b .node;
+        checked = o .checked;
+        long = long;
+        lengths = same;
+        explored = explored-cut r (explored o);
+        sorted = subst (Sorted (cut (found b n m)) (b .order)) (sym is)
+            (record { below = filled .index .below; is = filled .index .is; rising = filled .index .rising .rises });
+      }

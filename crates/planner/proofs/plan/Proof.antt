@@ -1,0 +1,87 @@
+-- Question 1, the check, and then what follows.
+use mathlib.Core.Path.{ap, _∙_}
+use native.Mathlib.Omega.{arith}
+use denote.Ref.{now}
+use Rattle.sheet.specs.declared.Sheet.{Sheet}
+use Rattle.contract.proofs.Exits.{short-buffer, faulty-sheet}
+use Rattle.contract.proofs.DecodedSheets.{read-refusal}
+use Rattle.planner.specs.Lent.{lent}
+use borrow.Author.Needs.{needs}
+use Rattle.planner.proofs.plan.Statement.{statement}
+use Rattle.planner.proofs.plan.Tie as tie
+
+refused-requires : tie.Need-refused-requires
+refused-requires c κs = search needs
+
+returns : tie.Need-returns
+returns c =
+    let s = c .before .before .before .before .before in
+    rw (c .refused .ensures) (short-buffer (now (s .args .sheet)) (lent (now (s .args .nodes)) (now (s .args .potentials)) (now (s .args .steps))) (λ l. omega (arith, l .nodes)))
+
+refused-requires-2 : tie.Need-refused-requires-2
+refused-requires-2 c κs = search needs
+
+returns-2 : tie.Need-returns-2
+returns-2 c =
+    let s = c .before .before .before .before .before .before in
+    rw (c .refused2 .ensures) (short-buffer (now (s .args .sheet)) (lent (now (s .args .nodes)) (now (s .args .potentials)) (now (s .args .steps))) (λ l. omega (arith, l .potentials)))
+
+refused-requires-3 : tie.Need-refused-requires-3
+refused-requires-3 c κs = search needs
+
+returns-3 : tie.Need-returns-3
+returns-3 c =
+    let s = c .before .before .before .before .before .before .before in
+    rw (c .refused3 .ensures) (short-buffer (now (s .args .sheet)) (lent (now (s .args .nodes)) (now (s .args .potentials)) (now (s .args .steps))) (λ l. omega (arith, l .steps)))
+
+read-requires : tie.Need-read-requires
+read-requires c κs = search needs
+
+refused-requires-4 : tie.Need-refused-requires-4
+refused-requires-4 c κs = search needs
+
+returns-4 : tie.Need-returns-4
+returns-4 c =
+    let s = c .before .before .before .before .before .before .before .before .before in
+    let e = ap (λ (x : Sheet). x .refusal) (c .before .before .read .ensures) ∙ read-refusal (now (s .args .sheet)) in
+    rw (c .refused4 .ensures, e) (faulty-sheet (now (s .args .sheet)) (lent (now (s .args .nodes)) (now (s .args .potentials)) (now (s .args .steps))) (record { nodes = omega arith; potentials = omega arith; steps = omega arith }) (λ z. omega (arith, e)))
+
+plan-read-requires : tie.Need-plan-read-requires
+plan-read-requires c κs =
+    let s = c .before .before .before .before .before .before .before .before .before .before .before in
+    let e = ap (λ (x : Sheet). x .refusal) (c .before .before .before .before .read .ensures) ∙ read-refusal (now (s .args .sheet)) in
+    (record { bytes = now (s .args .sheet); checked = omega (arith, e); is = c .before .before .before .before .read .ensures }, record { nodes = omega arith; potentials = omega arith; steps = omega arith })
+
+same-length : tie.Need-same-length
+same-length c = search needs
+
+same-length-2 : tie.Need-same-length-2
+same-length-2 c = search needs
+
+same-length-3 : tie.Need-same-length-3
+same-length-3 c = search needs
+
+returns-5 : tie.Need-returns-5
+returns-5 c =
+    let s = c .before .before .before .before .before .before .before .before .before .before .before .before .before .before .before .before .before in
+    let e = ap (λ (x : Sheet). x .refusal) (c .before .before .before .before .before .before .before .before .before .before .read .ensures) ∙ read-refusal (now (s .args .sheet)) in
+    c .before .before .before .before .before .plan-read .ensures (record { bytes = now (s .args .sheet); checked = omega (arith, e); is = c .before .before .before .before .before .before .before .before .before .before .read .ensures })
+
+pub plan-spec : {M : Type 1} → statement M
+plan-spec =
+    tie.close
+    (tie.spec
+    refused-requires
+    returns
+    refused-requires-2
+    returns-2
+    refused-requires-3
+    returns-3
+    read-requires
+    refused-requires-4
+    returns-4
+    plan-read-requires
+    same-length
+    same-length-2
+    same-length-3
+    returns-5)

@@ -1,0 +1,84 @@
+-- What the private functions are handed, and what they promise each other.
+use mathlib.Core.Path.{_≡_}
+use mathlib.Core.List.{List, _++_}
+use Prim.Native.Nat.{ℕ, _-_, _≤_, _<_}
+use lib.IntN.{ℤ}
+use lib.ListN.{length, getD, take, drop, replicate}
+use Rattle.sheet.specs.Questions.{checkOf}
+use Rattle.sheet.specs.Decoded.{readOf}
+use Rattle.sheet.specs.declared.Sheet.{Sheet}
+use Rattle.walks.specs.Walk.{at}
+use Rattle.walks.specs.Form.{Graph}
+use Rattle.walks.specs.Cycles.{SimpleCycle}
+use Rattle.lasso.specs.Answer as Lasso
+use Rattle.ratio.specs.Answer.{RatioFound}
+use Rattle.contract.specs.Plan.{Buffers, LongEnough, SameLengths, stepOn, startOf}
+use Rattle.contract.specs.Explored.{Found, Explored}
+use Rattle.contract.proofs.Hand.{Sorted}
+
+-- ---- lists that are written
+
+-- zeros from the place a on
+abbrev pub cleared : {A : Type 0} → A → List A → ℕ → List A
+cleared zero l a = take a l ++ replicate (length l - a) zero
+
+-- the first n entries of l' are those of s at the places that I names
+pub record Picked {A : Type 0} (zero : A) (s : List A) (I : List ℕ) (n : ℕ) (l l' : List A) : Type 0 where
+  pub sized : length l' ≡ length l
+  pub is : (i : ℕ) → i < n → getD l' i zero ≡ getD s (at I i) zero
+
+-- the places that I names are in s, and there is room for what is picked
+pub record Pickable {A : Type 0} (s : List A) (I : List ℕ) (n : ℕ) (l : List A) : Type 0 where
+  pub named : n ≤ length I
+  pub there : (i : ℕ) → i < n → at I i < length s
+  pub room : n ≤ length l
+
+-- ---- what the plan goes by
+
+-- the sheet was read from these bytes, which pass the check
+pub record ReadFrom (read : Sheet) : Type 0 where
+  pub bytes : List ℕ
+  pub checked : checkOf bytes ≡ 0
+  pub is : read ≡ readOf bytes
+
+-- a graph of n nodes: the codes of its arcs, the order of output, and the arc that discovered each node
+pub record Handed (F T C : List ℕ) (Z : List ℤ) (R order tree : List ℕ) (n : ℕ) : Type 0 where
+  pub graph : Graph F T Z R n
+  pub codes : length C ≡ length F
+  pub ordered : n ≤ length order
+  pub order-below : (i : ℕ) → i < n → at order i < n
+  pub tree-room : n ≤ length tree
+  pub tree-arcs : (v : ℕ) → 0 < v → v < n → Lasso.TreeArc F T tree v
+
+-- all arcs of the lists
+abbrev pub graphOf : List ℕ → List ℕ → List ℕ → List ℕ → List ℤ → List ℕ → ℕ → Found
+graphOf N F T C Z R n = record { node = N; from = F; to = T; code = C; cost = Z; reward = R; n = n; m = length F }
+
+-- the graph is that of a sheet, explored; the nodes' numbers stand in the first buffer, rising
+pub record OfSheet (F T C : List ℕ) (Z : List ℤ) (R order : List ℕ) (n : ℕ) (lent : Buffers) : Type 0 where
+  pub bytes : List ℕ
+  pub before : Buffers
+  pub node : List ℕ
+  pub checked : checkOf bytes ≡ 0
+  pub long : LongEnough before
+  pub lengths : SameLengths lent before
+  pub explored : Explored (stepOn bytes) (startOf bytes) (graphOf node F T C Z R n)
+  pub sorted : Sorted (graphOf node F T C Z R n) order (lent .nodes)
+
+-- the first k entries of `cycle` are a simple cycle of a graph with a search tree
+pub record Cyclic (F T C order tree cycle : List ℕ) (n k : ℕ) : Type 0 where
+  pub formed : Lasso.WellFormed F T tree cycle n k 4096
+  pub simple : SimpleCycle F T (length F) (take k cycle)
+  pub sources : (e : ℕ) → e < length F → at F e < n
+  pub codes : length C ≡ length F
+  pub ordered : n ≤ length order
+  pub order-below : (i : ℕ) → i < n → at order i < n
+
+-- the graph is that of a sheet, and p/q its least ratio, with the potentials and the cycle that were found with it
+pub record Solved (F T C order : List ℕ) (D : List ℤ) (cycle : List ℕ) (n k : ℕ) (p : ℤ) (q : ℕ) (lent : Buffers) : Type 0 where
+  pub cost : List ℤ
+  pub reward : List ℕ
+  pub of-sheet : OfSheet F T C cost reward order n lent
+  pub potential : List ℤ
+  pub arcs : List ℕ
+  pub least : RatioFound F T cost reward n p q k potential D arcs cycle

@@ -1,0 +1,99 @@
+// The plan of an explored graph: questions 13 and 14, and what is written where they are answered yes.
+ghost use Prim.Native.Nat.{_≤_};
+ghost use lib.ListN.{length};
+ghost use Rattle.contract.specs.Plan.{LongEnough, Planned};
+ghost use Rattle.planner.specs.Lent.{lent, answerOf};
+ghost use Rattle.planner.specs.Hands.{Handed, OfSheet, Cyclic, Solved};
+use crate::Answer;
+use ratio::Verdict;
+
+// The lasso of a cycle of the least ratio p / q, and the buffers. The first k entries of cycle are its arcs, least has the potentials.
+fn accept(
+    from: &[u16],
+    to: &[u16],
+    code: &[u16],
+    order: &[u32],
+    tree: &[usize],
+    n: usize,
+    least: &[i64],
+    cycle: &[usize],
+    k: usize,
+    p: i64,
+    q: u64,
+    nodes: &mut [u32],
+    potentials: &mut [i64],
+    steps: &mut [u16],
+) -> Answer
+    requires { ⌜ Cyclic (now from) (now to) (now code) (now order) (now tree) (now cycle) n k ⌝ ∗
+        ⌜ n ≤ length (now least) ⌝ ∗ ⌜ q ≤ 20480000 ⌝ ∗ ⌜ LongEnough (lent (now nodes) (now potentials) (now steps)) ⌝ }
+    ensures { λ r. ⌜ ((o : Solved (now (from .entry)) (now (to .entry)) (now (code .entry)) (now (order .entry)) (now (least .entry)) (now (cycle .entry)) n k p q
+        (lent (now (nodes .entry)) (now (potentials .entry)) (now (steps .entry))))
+        → Planned (o .of-sheet .bytes) (o .of-sheet .before) (lent (now (nodes .exit)) (now (potentials .exit)) (now (steps .exit))) (answerOf r)) ⌝ }
+{
+    let mut arcs = [0usize; 4096];
+    let laid = lasso::lasso_of(from, to, tree, n, cycle, k, &mut arcs);
+    // Never: the arguments are well formed.
+    let lasso::Answer::Laid(s) = laid else {
+        return crate::output::refused(13);
+    };
+    let all = s + k;
+    crate::output::clear_nodes(nodes, n);
+    crate::output::permute(least, order, n, potentials);
+    crate::output::clear_potentials(potentials, n);
+    crate::output::encode(code, &arcs, all, steps);
+    crate::output::clear_steps(steps, all);
+    Answer {
+        refusal: 0,
+        p,
+        q: q as u32,
+        n: n as u16,
+        s: s as u16,
+        m: k as u16,
+    }
+}
+
+pub(crate) fn plan_graph(
+    from: &[u16],
+    to: &[u16],
+    code: &[u16],
+    cost: &[i16],
+    reward: &[u16],
+    order: &[u32],
+    tree: &[usize],
+    n: usize,
+    nodes: &mut [u32],
+    potentials: &mut [i64],
+    steps: &mut [u16],
+) -> Answer
+    requires { ⌜ Handed (now from) (now to) (now code) (now cost) (now reward) (now order) (now tree) n ⌝ ∗
+        ⌜ LongEnough (lent (now nodes) (now potentials) (now steps)) ⌝ }
+    ensures { λ r. ⌜ ((o : OfSheet (now (from .entry)) (now (to .entry)) (now (code .entry)) (now (cost .entry)) (now (reward .entry)) (now (order .entry)) n
+        (lent (now (nodes .entry)) (now (potentials .entry)) (now (steps .entry))))
+        → Planned (o .bytes) (o .before) (lent (now (nodes .exit)) (now (potentials .exit)) (now (steps .exit))) (answerOf r)) ⌝ }
+{
+    let mut least = [0i64; 2048];
+    let mut cycle = [0usize; 2048];
+    let verdict = ratio::least_ratio(from, to, cost, reward, n, &mut least, &mut cycle);
+    match verdict {
+        Verdict::NoCycle => crate::output::refuse(13, nodes, potentials, steps),
+        Verdict::NoReward => crate::output::refuse(14, nodes, potentials, steps),
+        Verdict::Ratio(p, q, k) => accept(
+            from,
+            to,
+            code,
+            order,
+            tree,
+            n,
+            &least,
+            &cycle,
+            k,
+            p,
+            q,
+            nodes,
+            potentials,
+            steps,
+        ),
+        // Never: the arguments are well formed.
+        Verdict::Malformed => crate::output::refused(13),
+    }
+}

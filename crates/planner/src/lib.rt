@@ -1,0 +1,39 @@
+// The plan of a sheet: the least ratio of cost over reward, the reachable nodes with their potentials, and a lasso whose cycle has that ratio.
+ghost use Rattle.contract.specs.Plan.{Planned};
+ghost use Rattle.planner.specs.Lent.{lent, answerOf};
+
+mod graphs;
+mod output;
+mod sheets;
+
+// The refusal, the ratio p / q, n reachable nodes, and a lasso: a stem of s steps and a cycle of m.
+pub struct Answer {
+    pub refusal: u8,
+    pub p: i64,
+    pub q: u32,
+    pub n: u16,
+    pub s: u16,
+    pub m: u16,
+}
+
+// Questions 1 to 14. The nodes' numbers are written to nodes, rising, their potentials to potentials, and the codes of stem and cycle to steps.
+pub fn plan(sheet: &[u8], nodes: &mut [u32], potentials: &mut [i64], steps: &mut [u16]) -> Answer
+    ensures { λ r. ⌜ Planned (now (sheet .entry)) (lent (now (nodes .entry)) (now (potentials .entry)) (now (steps .entry)))
+        (lent (now (nodes .exit)) (now (potentials .exit)) (now (steps .exit))) (answerOf r) ⌝ }
+{
+    if nodes.len() < 2048 {
+        return output::refused(1);
+    }
+    if potentials.len() < 2048 {
+        return output::refused(1);
+    }
+    if steps.len() < 2048 {
+        return output::refused(1);
+    }
+    let read = sheet::read(sheet);
+    let refusal = read.refusal;
+    if refusal != 0 {
+        return output::refused(refusal);
+    }
+    sheets::plan_read(read, nodes, potentials, steps)
+}

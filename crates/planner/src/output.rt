@@ -1,0 +1,108 @@
+// What stands in the answer and in the lent buffers.
+ghost use mathlib.Core.Path.{_≡_};
+ghost use Prim.Native.Nat.{_≤_};
+ghost use lib.IntN.{pos};
+ghost use lib.ListN.{length, replicate};
+ghost use Rattle.contract.specs.Plan as Contract;
+ghost use Rattle.planner.specs.Lent.{answerOf};
+ghost use Rattle.planner.specs.Hands.{cleared, Picked, Pickable};
+use crate::Answer;
+
+// All numbers besides the refusal are 0.
+pub(crate) fn refused(refusal: u8) -> Answer
+    ensures { λ r. ⌜ answerOf r ≡ Contract.refused refusal ⌝ }
+{
+    Answer {
+        refusal,
+        p: 0,
+        q: 0,
+        n: 0,
+        s: 0,
+        m: 0,
+    }
+}
+
+// Zeros from a place on.
+pub(crate) fn clear_nodes(list: &mut [u32], from: usize)
+    requires { ⌜ from ≤ length (now list) ⌝ }
+    ensures { λ _. ⌜ now (list .exit) ≡ cleared 0 (now (list .entry)) from ⌝ }
+{
+    let mut i = from;
+    while i < list.len() {
+        list[i] = 0;
+        i += 1;
+    }
+}
+
+pub(crate) fn clear_potentials(list: &mut [i64], from: usize)
+    requires { ⌜ from ≤ length (now list) ⌝ }
+    ensures { λ _. ⌜ now (list .exit) ≡ cleared (pos 0) (now (list .entry)) from ⌝ }
+{
+    let mut i = from;
+    while i < list.len() {
+        list[i] = 0;
+        i += 1;
+    }
+}
+
+pub(crate) fn clear_steps(list: &mut [u16], from: usize)
+    requires { ⌜ from ≤ length (now list) ⌝ }
+    ensures { λ _. ⌜ now (list .exit) ≡ cleared 0 (now (list .entry)) from ⌝ }
+{
+    let mut i = from;
+    while i < list.len() {
+        list[i] = 0;
+        i += 1;
+    }
+}
+
+// A refusal after which all entries are 0.
+pub(crate) fn refuse(
+    refusal: u8,
+    nodes: &mut [u32],
+    potentials: &mut [i64],
+    steps: &mut [u16],
+) -> Answer
+    ensures { λ r. ⌜ answerOf r ≡ Contract.refused refusal ⌝ ∗
+        ⌜ now (nodes .exit) ≡ replicate (length (now (nodes .entry))) 0 ⌝ ∗
+        ⌜ now (potentials .exit) ≡ replicate (length (now (potentials .entry))) (pos 0) ⌝ ∗
+        ⌜ now (steps .exit) ≡ replicate (length (now (steps .entry))) 0 ⌝ }
+{
+    clear_nodes(nodes, 0);
+    clear_potentials(potentials, 0);
+    clear_steps(steps, 0);
+    refused(refusal)
+}
+
+fn place(x: u32) -> usize
+    ensures { λ r. ⌜ r ≡ x ⌝ }
+{
+    x as usize
+}
+
+// The first n potentials, in the order of output.
+pub(crate) fn permute(least: &[i64], order: &[u32], n: usize, potentials: &mut [i64])
+    requires { ⌜ Pickable (now least) (now order) n (now potentials) ⌝ }
+    ensures { λ _. ⌜ Picked (pos 0) (now (least .entry)) (now (order .entry)) n (now (potentials .entry)) (now (potentials .exit)) ⌝ }
+{
+    let mut i = 0;
+    while i < n {
+        let v = place(order[i]);
+        let x = least[v];
+        potentials[i] = x;
+        i += 1;
+    }
+}
+
+// The codes of the first k arcs.
+pub(crate) fn encode(code: &[u16], arcs: &[usize], k: usize, steps: &mut [u16])
+    requires { ⌜ Pickable (now code) (now arcs) k (now steps) ⌝ }
+    ensures { λ _. ⌜ Picked 0 (now (code .entry)) (now (arcs .entry)) k (now (steps .entry)) (now (steps .exit)) ⌝ }
+{
+    let mut i = 0;
+    while i < k {
+        let e = arcs[i];
+        steps[i] = code[e];
+        i += 1;
+    }
+}
