@@ -10,18 +10,13 @@ use mir.Syntax.{w16, w64}
 use mir.Val.{SFits, toZ, ofZ}
 use mir.Facts.{toZ-ofZ}
 use Rattle.integers.proofs.Parts.{abs-parts, mag-parts}
+use Rattle.integers.proofs.Machine.{widened-fits, widened}
 use Rattle.walks.specs.Walk.{atℤ}
 use Rattle.ratio.proofs.fraction.cost_of.Statement.{statement}
 use Rattle.ratio.proofs.fraction.cost_of.Tie as tie
 
-wider : (z : ℤ) → mag z < 32768 → SFits w64 (toZ w16 (ofZ w16 z))
-wider z h = let k : SFits w16 z = sfits-of h in simp toZ-ofZ record { sfits = omega arith }
-
-same : (z : ℤ) → mag z < 32768 → toZ w64 (ofZ w64 (toZ w16 (ofZ w16 z))) ≡ z
-same z h = let k : SFits w16 z = sfits-of h in let l : SFits w64 z = record { sfits = omega arith } in simp toZ-ofZ
-
 bound : (z : ℤ) → mag z < 32768 → natAbs (toZ w64 (ofZ w64 (toZ w16 (ofZ w16 z)))) ≤ 32768
-bound z h = rw (same z h) (omega (arith, abs-parts z, mag-parts z))
+bound z h = rw (widened z (sfits-of h)) (omega (arith, abs-parts z, mag-parts z))
 
 mul-result : tie.Need-mul-result
 mul-result c = search needs
@@ -30,10 +25,10 @@ shared-slice-copy-out-result : tie.Need-shared-slice-copy-out-result
 shared-slice-copy-out-result c = search needs
 
 cast-result : tie.Need-cast-result
-cast-result c = wider (atℤ (now (c .before .args .cost)) (c .before .args .e)) (c .result .given)
+cast-result c = widened-fits (atℤ (now (c .before .args .cost)) (c .before .args .e)) (sfits-of (c .result .given))
 
 returns : tie.Need-returns
-returns c = let z = atℤ (now (c .before .args .cost)) (c .before .args .e) in (same z (c .result .given), bound z (c .result .given))
+returns c = let z = atℤ (now (c .before .args .cost)) (c .before .args .e) in (widened z (sfits-of (c .result .given)), bound z (c .result .given))
 
 pub cost-of-spec : {M : Type 1} → statement M
 cost-of-spec = tie.close (tie.spec mul-result shared-slice-copy-out-result cast-result returns)
