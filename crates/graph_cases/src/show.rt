@@ -8,13 +8,11 @@ fn number(z: i64) {
         io::write_all(STDOUT_FILENO, b" none");
         return;
     }
-    if z < 0 {
-        io::write_all(STDOUT_FILENO, b" -");
-        io::print_decimal(STDOUT_FILENO, ((-1 - z) as u64) + 1);
-        return;
-    }
     io::write_all(STDOUT_FILENO, b" ");
-    io::print_decimal(STDOUT_FILENO, z as u64);
+    if z < 0 {
+        io::write_all(STDOUT_FILENO, b"-");
+    }
+    io::print_decimal(STDOUT_FILENO, signs::magnitude(z));
 }
 
 // The first entries of a buffer.

@@ -80,14 +80,6 @@ fn gcd(a: u64, b: u64) -> u64
     x
 }
 
-// The absolute value.
-fn magnitude(z: i64) -> u64
-    requires { ⌜ natAbs z ≤ 20480000 ⌝ }
-    ensures { λ r. ⌜ r ≡ natAbs z ⌝ }
-{
-    if z < 0 { (0 - z) as u64 } else { z as u64 }
-}
-
 // n, with the sign of z.
 fn with_sign(n: u64, z: i64) -> i64
     requires { ⌜ n ≤ 20480000 ⌝ }
@@ -101,7 +93,7 @@ fn reduce(cost: i64, reward: u64) -> Fraction
     requires { ⌜ natAbs cost ≤ 20480000 ⌝ ∗ ⌜ 0 < reward ⌝ }
     ensures { λ r. ⌜ Reduced cost reward (r .p) (r .q) ⌝ }
 {
-    let n = magnitude(cost);
+    let n = signs::magnitude(cost);
     let g = gcd(n, reward);
     let p = with_sign(n / g, cost);
     Fraction { p, q: reward / g }

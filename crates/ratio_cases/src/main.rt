@@ -5,10 +5,8 @@ use ratio::Verdict;
 fn print_signed(z: i64) {
     if z < 0 {
         io::write_all(STDOUT_FILENO, b"-");
-        io::print_decimal(STDOUT_FILENO, ((-1 - z) as u64) + 1);
-    } else {
-        io::print_decimal(STDOUT_FILENO, z as u64);
     }
+    io::print_decimal(STDOUT_FILENO, signs::magnitude(z));
 }
 
 fn print_ratio(p: i64, q: u64, arcs: usize) {
