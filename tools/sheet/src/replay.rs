@@ -127,12 +127,12 @@ impl Replay<'_> {
     /// An upper byte 2c means < c and 2c + 1 means ≤ c, compared at c times n.
     fn below(&self, j: usize, byte: u8) -> bool {
         let (value, bound) = (self.state.clocks[j], i64::from(byte / 2) * self.n);
-        value < bound || (byte % 2 == 1 && value == bound)
+        value < bound || (byte & 1 == 1 && value == bound)
     }
 
     fn above(&self, j: usize, byte: u8) -> bool {
         let (value, bound) = (self.state.clocks[j], i64::from(byte / 2) * self.n);
-        value > bound || (byte % 2 == 0 && value == bound)
+        value > bound || (byte & 1 == 0 && value == bound)
     }
 
     fn within(&self, after: &str) -> Result<(), Fault> {

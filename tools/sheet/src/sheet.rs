@@ -32,11 +32,12 @@ pub struct Sheet {
     pub edges: Vec<Edge>,
 }
 
-/// Twice the clock's value is below the byte, with the byte's last bit set where the value itself may be reached.
+/// The byte of `clock < bound`, or of `clock <= bound` where the bound may be reached.
 pub fn upper_byte(bound: u8, reached: bool) -> u8 {
     2 * bound + u8::from(reached)
 }
 
+/// The byte of `clock > bound`, or of `clock >= bound` where the bound may be reached.
 pub fn lower_byte(bound: u8, reached: bool) -> u8 {
     2 * bound + u8::from(!reached)
 }

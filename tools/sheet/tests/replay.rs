@@ -49,7 +49,10 @@ fn what_is_not_allowed_is_told() {
 
 #[test]
 fn malformed_runs_are_told() {
-    assert_eq!(answer("loop\ndelay 1\n"), "2: the run does not come back to where its loop began; expected equal location and clock values at both ends");
+    assert_eq!(
+        answer("loop\ndelay 1\n"),
+        "2: the run does not come back to where its loop began; expected equal location and clock values at both ends"
+    );
     assert_eq!(answer("delay 1\nedge finish\n"), "2: the run has no 'loop'; expected 'loop' on the line where the loop begins");
     assert_eq!(answer("loop\n"), "1: the loop is empty; expected delays and edges after 'loop'");
     assert_eq!(answer("loop\nloop\n"), "2: a second 'loop'; expected one, where the loop begins");
