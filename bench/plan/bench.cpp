@@ -69,9 +69,9 @@ void print_row(const Row &row) {
         nodes = "over 2048";
         arcs = "refused " + std::to_string(row.plan.refusal);
     }
-    if (std::string(row.plan.howard) != "least") note = std::string(" Boost's cycle: ") + row.plan.howard + " |";
-    if (!row.agree) note = " the answers differ |";
-    std::printf("| %s | %s | %d | %.0f | %.0f | %.2f |%s\n", nodes.c_str(), arcs.c_str(), row.clocks, row.proved, row.cpp, row.proved / row.cpp,
+    if (std::string(row.plan.howard) != "least") note = std::string(", Boost's cycle: ") + row.plan.howard;
+    if (!row.agree) note = ", THE ANSWERS DIFFER";
+    std::printf("| %s | %s | %d | %.0f | %.0f | %.2f%s |\n", nodes.c_str(), arcs.c_str(), row.clocks, row.proved, row.cpp, row.proved / row.cpp,
                 note.c_str());
     std::fflush(stdout);
 }
