@@ -1,0 +1,82 @@
+#include "make.hpp"
+
+#include <random>
+
+#include "planner.hpp"
+
+namespace {
+
+struct Dice {
+    std::mt19937 random;
+    int from(int least, int most) { return least + int(random() % unsigned(most - least + 1)); }
+    bool chance(int percent) { return from(0, 99) < percent; }
+};
+
+void put_word(std::vector<uint8_t> &bytes, int w) {
+    bytes.push_back(uint8_t(w & 255));
+    bytes.push_back(uint8_t(w >> 8 & 255));
+}
+
+int price(Dice &dice, int most) {
+    int p = dice.from(1, most);
+    return dice.chance(50) ? p : -p;
+}
+
+// Bounds up to `high`, a quarter of them strict.
+void put_location(std::vector<uint8_t> &bytes, const Kind &kind, int high, Dice &dice) {
+    bytes.push_back(uint8_t(3 | ((1 << kind.clocks) - 1) << 2));
+    put_word(bytes, price(dice, 100));
+    put_word(bytes, dice.from(1, 20));
+    for (int j = 0; j < kind.clocks; j++) bytes.push_back(uint8_t(2 * dice.from((high + 1) / 2, high) + !dice.chance(25)));
+}
+
+// Most edges reset some clock, and a quarter are guarded from below.
+void put_edge(std::vector<uint8_t> &bytes, const Kind &kind, int place, int high, Dice &dice) {
+    bool resets = dice.chance(80);
+    int guard = dice.chance(25) ? dice.from(0, kind.clocks - 1) : -1;
+    put_word(bytes, 3 | (resets ? 4 : 0) | (guard < 0 ? 0 : 8 << guard));
+    bytes.push_back(uint8_t(place % kind.locations));
+    bytes.push_back(uint8_t(dice.from(0, kind.locations - 1)));
+    put_word(bytes, price(dice, 200));
+    put_word(bytes, dice.from(1, 50));
+    if (resets) bytes.push_back(uint8_t(dice.from(1, (1 << kind.clocks) - 1)));
+    if (guard >= 0) bytes.push_back(uint8_t(dice.from(1, high)));
+}
+
+std::vector<uint8_t> random_sheet(Kind kind, unsigned seed) {
+    Dice dice{std::mt19937(seed)};
+    int high = dice.from(1, 12);
+    if (kind.locations == 0) {
+        kind.locations = dice.from(1, 12);
+        kind.edges = kind.locations * 8 / 3;
+    }
+    std::vector<uint8_t> bytes{1, uint8_t(kind.locations), uint8_t(kind.clocks), uint8_t(kind.edges)};
+    for (int i = 0; i < kind.locations; i++) put_location(bytes, kind, high, dice);
+    for (int i = 0; i < kind.edges; i++) put_edge(bytes, kind, i, high, dice);
+    return bytes;
+}
+
+template <class Wanted> Made first(const Kind &kind, Wanted wanted) {
+    for (unsigned seed = 1; seed <= 20000; seed++) {
+        std::vector<uint8_t> bytes = random_sheet(kind, seed);
+        Sheet sheet;
+        Graph graph;
+        if (read_sheet(bytes.data(), bytes.size(), sheet)) continue;
+        if (wanted(explore(sheet, graph), graph)) return {bytes, seed};
+    }
+    return {};
+}
+
+} // namespace
+
+Made make_sheet(const Kind &kind, unsigned nodes) {
+    return first(kind, [&](bool whole, const Graph &graph) {
+        double n = double(graph.numbers.size()), density = double(graph.arcs.size()) / n;
+        if (!whole || n < nodes * 0.95 || nodes * 1.05 < n || density < kind.least_density || kind.most_density < density) return false;
+        return cyclic(graph, 10000) && !cyclic(graph, 0);
+    });
+}
+
+Made make_overfull(const Kind &kind) {
+    return first(kind, [](bool whole, const Graph &) { return !whole; });
+}

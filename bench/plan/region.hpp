@@ -1,0 +1,21 @@
+// Nodes of a sheet and the steps between them.
+#pragma once
+#include "sheet.hpp"
+
+constexpr int unit_code = 32, move_code = 33;
+
+struct Node {
+    int location = 0, corner = 0;
+    std::array<int, 3> whole{}, rank{}; // a clock's class: 0 for no fraction, else the rank of its fraction
+};
+
+uint32_t number_of(const Node &node);
+Node node_of(uint32_t number);
+
+struct Step {
+    bool allowed = false;
+    Node to;
+    int cost = 0, reward = 0;
+};
+
+Step step(const Sheet &sheet, const Node &from, int code);

@@ -1,0 +1,100 @@
+#include "sheet.hpp"
+
+namespace {
+
+struct Reader {
+    const uint8_t *bytes;
+    size_t length, at;
+
+    bool has(size_t count) const { return count <= length - at; }
+    int byte() { return bytes[at++]; }
+    int word() {
+        int low = byte();
+        return low | byte() << 8;
+    }
+    int signed_word() {
+        int w = word();
+        return w < 32768 ? w : w - 65536;
+    }
+};
+
+// Bits of clocks 0 to K - 1 from a first bit on.
+int clock_bits(int first, int clocks) { return ((1 << clocks) - 1) << first; }
+
+// The bytes that the map's fields take: two for cost and reward, one for each other.
+size_t field_bytes(int map) { return size_t(__builtin_popcount(unsigned(map)) + __builtin_popcount(unsigned(map & 3))); }
+
+// Cost and reward, bits 0 and 1 of both kinds of map.
+bool read_prices(Reader &r, int map, int &cost, int &reward) {
+    bool good = true;
+    if (map & 1) {
+        cost = r.signed_word();
+        good = cost != 0 && -10000 <= cost && cost <= 10000;
+    }
+    if (map & 2) {
+        reward = r.word();
+        good = good && 1 <= reward && reward <= 10000;
+    }
+    return good;
+}
+
+// A byte for each clock whose bit stands, from the map's bit `first` on.
+bool read_bytes(Reader &r, int map, int first, int least, std::array<int, 3> &values) {
+    bool good = true;
+    for (int j = 0; j < 3; j++) {
+        if (!(map >> (first + j) & 1)) continue;
+        values[j] = r.byte();
+        good = good && least <= values[j] && values[j] <= 25;
+    }
+    return good;
+}
+
+int read_location(Reader &r, int clocks, Location &location) {
+    if (!r.has(1)) return 5;
+    int map = r.byte(), bounds = clock_bits(2, clocks);
+    if (map & ~(3 | bounds)) return 6;
+    if (!r.has(field_bytes(map))) return 5;
+    if ((map & bounds) != bounds) return 7;
+    bool good = read_prices(r, map, location.cost, location.reward);
+    good = read_bytes(r, map, 2, 0, location.upper) && good;
+    return good ? 0 : 8;
+}
+
+int read_edge(Reader &r, int clocks, int locations, Edge &edge) {
+    if (!r.has(2)) return 5;
+    int map = r.word();
+    if (map & ~(7 | clock_bits(3, clocks) | clock_bits(6, clocks))) return 6;
+    if (!r.has(2 + field_bytes(map))) return 5;
+    edge.source = r.byte();
+    edge.target = r.byte();
+    bool good = read_prices(r, map, edge.cost, edge.reward);
+    if (map & 4) {
+        edge.mask = r.byte();
+        good = good && 1 <= edge.mask && edge.mask < 1 << clocks;
+    }
+    good = read_bytes(r, map, 3, 1, edge.lower) && good;
+    good = read_bytes(r, map, 6, 0, edge.upper) && good;
+    if (!good) return 8;
+    return edge.source < locations && edge.target < locations ? 0 : 9;
+}
+
+} // namespace
+
+int read_sheet(const uint8_t *bytes, size_t length, Sheet &sheet) {
+    if (length < 4 || 580 < length) return 2;
+    Reader r{bytes, length, 0};
+    if (r.byte() != 1) return 3;
+    int locations = r.byte(), clocks = r.byte(), edges = r.byte();
+    if (locations < 1 || 12 < locations || clocks < 1 || 3 < clocks || 32 < edges) return 4;
+    sheet.clocks = clocks;
+    sheet.locations.assign(size_t(locations), {});
+    sheet.edges.assign(size_t(edges), {});
+    for (Location &location : sheet.locations)
+        if (int refusal = read_location(r, clocks, location)) return refusal;
+    for (Edge &edge : sheet.edges)
+        if (int refusal = read_edge(r, clocks, locations, edge)) return refusal;
+    if (r.at != length) return 10;
+    for (int j = 0; j < clocks; j++)
+        if (sheet.locations[0].upper[j] == 0) return 11;
+    return 0;
+}

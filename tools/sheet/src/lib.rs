@@ -1,0 +1,10 @@
+//! Sheets as text and as bytes.
+
+pub mod decode;
+pub mod describe;
+pub mod encode;
+pub mod limits;
+pub mod parse;
+pub mod replay;
+pub mod sheet;
+pub mod tokens;
