@@ -1,22 +1,23 @@
 //! Sheets with an exact number of reachable nodes, for both sides of the limit.
 
 use crate::explore::explore;
-use crate::generate::{location, room, sheet, Shape};
+use crate::generate::{cost, location, reward, room, sheet, Prices, Shape};
 use crate::random::Random;
 use crate::sheet::{Edge, Location, Sheet};
 
+fn earning_edge(random: &mut Random, prices: Prices) -> Edge {
+    Edge { cost: cost(random, prices), reward: reward(random, prices), ..Edge::default() }
+}
+
 /// Lets every location reset each clock by itself, so that nearly all nodes are reachable.
-fn reset_each_clock(sheet: &mut Sheet) {
+fn reset_each_clock(sheet: &mut Sheet, random: &mut Random, prices: Prices) {
+    let lower = random.pick(&[None, Some(1), Some(2), Some(3)]);
     for location in 0..sheet.locations.len() {
         for clock in 0..sheet.clocks {
-            sheet.edges.push(Edge {
-                source: location,
-                target: location,
-                cost: 3 - clock as i64,
-                reward: 1 + location as i64,
-                mask: 1 << clock,
-                ..Edge::default()
-            });
+            let mut edge = earning_edge(random, prices);
+            (edge.source, edge.target, edge.mask) = (location, location, 1 << clock);
+            edge.lower[clock] = lower;
+            sheet.edges.push(edge);
         }
     }
 }
@@ -27,7 +28,7 @@ fn nodes_on_the_diagonal(upper: usize) -> usize {
 }
 
 /// Adds locations, each entered from location 0 with all clocks reset, for `missing` more nodes.
-fn pad(sheet: &mut Sheet, mut missing: usize, random: &mut Random) -> bool {
+fn pad(sheet: &mut Sheet, mut missing: usize, random: &mut Random, prices: Prices) -> bool {
     while missing > 0 {
         if sheet.locations.len() == 12 || sheet.edges.len() == 32 {
             return false;
@@ -35,30 +36,19 @@ fn pad(sheet: &mut Sheet, mut missing: usize, random: &mut Random) -> bool {
         let fitting = (1..=25).rev().find(|&upper| nodes_on_the_diagonal(upper) <= missing);
         let upper = fitting.expect("bound 0 has one node");
         missing -= nodes_on_the_diagonal(upper);
-        sheet.edges.push(Edge {
-            target: sheet.locations.len(),
-            cost: random.within(-20, 20),
-            reward: random.within(1, 9),
-            mask: (1 << sheet.clocks) - 1,
-            ..Edge::default()
-        });
-        let bounds = [upper as u8; 3];
-        sheet.locations.push(Location { cost: random.within(-9, 9), reward: 0, upper: bounds });
+        let (target, mask) = (sheet.locations.len(), (1 << sheet.clocks) - 1);
+        sheet.edges.push(Edge { target, mask, ..earning_edge(random, prices) });
+        let (cost, upper) = (cost(random, prices), [upper as u8; 3]);
+        sheet.locations.push(Location { cost, reward: 0, upper });
     }
     true
 }
 
-/// Fills up with edges from location 0 to all, guarded or not.
-fn fill(sheet: &mut Sheet, edges: usize, random: &mut Random) {
+/// Fills up with edges from location 0 to all, guarded or not, with all clocks reset.
+fn fill(sheet: &mut Sheet, edges: usize, random: &mut Random, prices: Prices) {
     while sheet.edges.len() < edges {
-        let mut edge = Edge {
-            source: 0,
-            target: random.below(sheet.locations.len()),
-            cost: random.within(-50, 50),
-            reward: random.within(1, 50),
-            mask: (1 << sheet.clocks) - 1,
-            ..Edge::default()
-        };
+        let (target, mask) = (random.below(sheet.locations.len()), (1 << sheet.clocks) - 1);
+        let mut edge = Edge { target, mask, ..earning_edge(random, prices) };
         edge.lower[0] = random.percent(20).then(|| random.within(1, 7) as u8);
         sheet.edges.push(edge);
     }
@@ -89,10 +79,10 @@ pub fn exact(random: &mut Random, shape: &Shape, nodes: usize, edges: usize) -> 
         }
         let shape = Shape { locations: locations.len(), edges: locations.len() - 1, ..*shape };
         let mut made = Sheet { locations, ..sheet(random, &shape) };
-        reset_each_clock(&mut made);
+        reset_each_clock(&mut made, random, shape.prices);
         let count = explore(&made, nodes).numbers.len();
-        if count <= nodes && pad(&mut made, nodes - count, random) {
-            fill(&mut made, edges, random);
+        if count <= nodes && pad(&mut made, nodes - count, random, shape.prices) {
+            fill(&mut made, edges, random, shape.prices);
             return Some(made);
         }
     }

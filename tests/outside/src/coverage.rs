@@ -11,7 +11,7 @@ use crate::weights::least_weights;
 pub const SHEETS: u64 = 20_000;
 
 /// Each kind and the least number of its cases among so many sheets.
-pub const PROMISED: [(&str, u64); 51] = [
+pub const PROMISED: [(&str, u64); 53] = [
     ("plan answers:   0", 4000),
     ("plan answers:   1", 20_000),
     ("plan answers:   2", 100),
@@ -50,7 +50,9 @@ pub const PROMISED: [(&str, u64); 51] = [
     ("accepted: ratio below 0", 500),
     ("accepted: ratio 0", 50),
     ("accepted: ratio not whole", 500),
+    ("accepted: q above 100,000", 100),
     ("accepted: a potential below 0", 500),
+    ("accepted: a potential below -10^10", 50),
     ("accepted: no stem", 100),
     ("accepted: a stem", 100),
     ("accepted: time passes in the cycle", 100),
@@ -86,7 +88,9 @@ pub fn count_accepted(tally: &mut Tally, sheet: &Sheet, graph: &Graph, answer: &
         ("ratio below 0", answer.p < 0),
         ("ratio 0", answer.p == 0),
         ("ratio not whole", answer.q > 1),
+        ("q above 100,000", answer.q > 100_000),
         ("a potential below 0", answer.lowest_potential < 0),
+        ("a potential below -10^10", answer.lowest_potential < -10_000_000_000),
         ("no stem", answer.stem == 0),
         ("a stem", answer.stem > 0),
         ("time passes in the cycle", answer.units > 0),

@@ -49,7 +49,7 @@ pub fn room(location: &Location, clocks: usize) -> usize {
     (0..1 << clocks).map(nodes_of).sum()
 }
 
-fn cost(random: &mut Random, prices: Prices) -> i64 {
+pub fn cost(random: &mut Random, prices: Prices) -> i64 {
     match prices {
         Prices::Small => random.within(-9, 9),
         Prices::Wide => random.within(-10_000, 10_000),
@@ -58,7 +58,7 @@ fn cost(random: &mut Random, prices: Prices) -> i64 {
     }
 }
 
-fn reward(random: &mut Random, prices: Prices) -> i64 {
+pub fn reward(random: &mut Random, prices: Prices) -> i64 {
     match prices {
         Prices::Small => random.within(1, 5),
         Prices::Wide | Prices::Negative => random.within(1, 10_000),

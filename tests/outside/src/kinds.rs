@@ -2,13 +2,14 @@
 
 use crate::border::exact;
 use crate::damage::{damage, noise, scatter};
-use crate::generate::{sheet, Prices, Shape};
+use crate::generate::{cost, reward, sheet, Prices, Shape};
 use crate::random::Random;
+use crate::sheet::Edge;
 use crate::write::write;
 
 /// Each kind and how many of a thousand sheets are of it.
-const KINDS: [(&str, u64); 15] = [
-    ("tiny", 100),
+const KINDS: [(&str, u64); 16] = [
+    ("tiny", 80),
     ("small", 150),
     ("strict", 60),
     ("closed", 60),
@@ -19,6 +20,7 @@ const KINDS: [(&str, u64); 15] = [
     ("no cycle", 50),
     ("idle", 60),
     ("extreme", 50),
+    ("ring", 20),
     ("long", 20),
     ("damaged", 180),
     ("twice damaged", 40),
@@ -64,6 +66,7 @@ fn border_bytes(random: &mut Random, dense: bool) -> Vec<u8> {
         locations: if dense { 1 } else { 2 + random.below(3) },
         bound: if clocks == 2 { 12 } else { random.within(3, 5) },
         strict: random.pick(&[0, 40]),
+        prices: random.pick(&[Prices::Small, Prices::Wide, Prices::Extreme]),
         guards: 0,
         earning: 100,
         ..small_shape(random)
@@ -94,6 +97,15 @@ fn shape_of(random: &mut Random, kind: &str) -> Shape {
         "no cycle" => Shape { forward: random.percent(70), guards: 80, ..small },
         "idle" => Shape { earning: random.pick(&[0, 40, 80]), guards: 20, ..small },
         "extreme" => Shape { prices: Prices::Extreme, earning: 100, rates: 100, ..small },
+        "ring" => Shape {
+            locations: 2 + random.below(11),
+            edges: 0,
+            bound: 12,
+            room: 100_000,
+            rates: 100,
+            prices: random.pick(&[Prices::Wide, Prices::Extreme]),
+            ..small
+        },
         "long" => Shape {
             clocks: 3,
             locations: 12,
@@ -106,6 +118,23 @@ fn shape_of(random: &mut Random, kind: &str) -> Shape {
         },
         _ => small,
     }
+}
+
+/// Locations in a ring, each left only after a long time: the ratio has a great denominator.
+fn ring_bytes(random: &mut Random) -> Vec<u8> {
+    let shape = shape_of(random, "ring");
+    let mut made = sheet(random, &shape);
+    let count = made.locations.len();
+    for (source, location) in made.locations.iter_mut().enumerate() {
+        location.upper = [random.pick(&[22, 23, 24, 25]); 3];
+        location.reward = reward(random, shape.prices);
+        let mut edge = Edge { source, target: (source + 1) % count, mask: 7, ..Edge::default() };
+        edge.mask >>= 3 - shape.clocks;
+        (edge.cost, edge.reward) = (cost(random, shape.prices), reward(random, shape.prices));
+        edge.lower[0] = Some(random.within(18, 21) as u8);
+        made.edges.push(edge);
+    }
+    write(&made).bytes
 }
 
 /// A sheet with every field of the format, so of the greatest length.
@@ -138,6 +167,7 @@ pub fn generate(seed: u64) -> (&'static str, Vec<u8>) {
     let bytes = match kind {
         "border" => border_bytes(random, false),
         "dense" => border_bytes(random, true),
+        "ring" => ring_bytes(random),
         "long" => long_bytes(random),
         "damaged" | "twice damaged" => {
             let shape = shape_of(random, "small");
