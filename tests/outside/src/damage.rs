@@ -63,37 +63,85 @@ fn drop_bound(random: &mut Random, bytes: &mut Vec<u8>, records: &[usize]) {
     }
 }
 
-/// Makes the damage; the places are those of the undamaged sheet.
-pub fn damage(random: &mut Random, written: Written) -> Vec<u8> {
-    let Written { mut bytes, records, fields, ends } = written;
-    match random.below(11) {
-        0 => header(random, &mut bytes),
-        1 | 2 => length(random, &mut bytes),
-        3 => counts(random, &mut bytes),
-        4 => map_bit(random, &mut bytes, &records),
-        5 => drop_bound(random, &mut bytes, &records),
-        6 | 7 => {
-            let (at, field) = random.pick(&fields);
-            put_bad_value(random, &mut bytes, at, field);
-        }
-        8 if !ends.is_empty() => {
-            let at = random.pick(&ends) + random.below(2);
-            bytes[at] = random.pick(&[bytes[1], 12, 255]);
-        }
-        9 => bytes[fields.iter().find(|field| field.1 == Field::Upper).map_or(4, |f| f.0)] = 0,
-        _ => scatter(random, &mut bytes, 1),
+fn bad_field(random: &mut Random, bytes: &mut [u8], fields: &[(usize, Field)]) {
+    if !fields.is_empty() {
+        let (at, field) = random.pick(fields);
+        put_bad_value(random, bytes, at, field);
     }
-    bytes
 }
 
-/// Random bytes at random places, so that several questions may be answered no.
-pub fn scatter(random: &mut Random, bytes: &mut [u8], count: usize) {
-    for _ in 0..count {
-        if !bytes.is_empty() {
+fn bad_end(random: &mut Random, bytes: &mut [u8], ends: &[usize]) {
+    if !ends.is_empty() {
+        let at = random.pick(ends) + random.below(2);
+        bytes[at] = random.pick(&[bytes[1], 12, 255]);
+    }
+}
+
+/// A fault that leaves every place where it is.
+fn in_place(random: &mut Random, bytes: &mut [u8], sheet: &Written) {
+    match random.below(9) {
+        0 => header(random, bytes),
+        1 => counts(random, bytes),
+        2 => map_bit(random, bytes, &sheet.records),
+        3..=5 => bad_field(random, bytes, &sheet.fields),
+        6 => bad_end(random, bytes, &sheet.ends),
+        7 => {
+            let first = sheet.fields.iter().find(|field| field.1 == Field::Upper);
+            bytes[first.expect("location 0 has a bound").0] = 0;
+        }
+        _ => {
             let at = random.below(bytes.len());
             bytes[at] = random.next() as u8;
         }
     }
+}
+
+/// Several faults in one record, so that the order of its questions is seen.
+fn in_one_record(random: &mut Random, bytes: &mut [u8], sheet: &Written) {
+    let record = random.below(sheet.records.len());
+    let begin = sheet.records[record];
+    let end = sheet.records.get(record + 1).copied().unwrap_or(bytes.len());
+    let inside = |at: usize| (begin..end).contains(&at);
+    let fields: Vec<_> = sheet.fields.iter().copied().filter(|field| inside(field.0)).collect();
+    let ends: Vec<_> = sheet.ends.iter().copied().filter(|&at| inside(at)).collect();
+    if random.percent(80) {
+        bad_field(random, bytes, &fields);
+    }
+    if random.percent(80) {
+        bad_end(random, bytes, &ends);
+    }
+    if random.percent(25) {
+        map_bit(random, bytes, &[begin]);
+    }
+}
+
+/// The sheet with one fault.
+pub fn damage(random: &mut Random, sheet: &Written) -> Vec<u8> {
+    let mut bytes = sheet.bytes.clone();
+    match random.below(10) {
+        0 | 1 => length(random, &mut bytes),
+        2 => drop_bound(random, &mut bytes, &sheet.records),
+        _ => in_place(random, &mut bytes, sheet),
+    }
+    bytes
+}
+
+/// The sheet with several faults, so that the order of the questions is seen.
+pub fn damage_more(random: &mut Random, sheet: &Written) -> Vec<u8> {
+    let mut bytes = sheet.bytes.clone();
+    if random.percent(50) {
+        in_one_record(random, &mut bytes, sheet);
+    } else {
+        in_place(random, &mut bytes, sheet);
+        in_place(random, &mut bytes, sheet);
+    }
+    let counts_stand = bytes[1..4] == sheet.bytes[1..4];
+    match random.below(4) {
+        0 => length(random, &mut bytes),
+        1 if counts_stand => drop_bound(random, &mut bytes, &sheet.records),
+        _ => {}
+    }
+    bytes
 }
 
 /// Bytes that begin like a sheet, or not even that.

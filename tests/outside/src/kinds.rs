@@ -1,7 +1,7 @@
 //! The kinds of sheets: one seed gives one sheet.
 
 use crate::border::exact;
-use crate::damage::{damage, noise, scatter};
+use crate::damage::{damage, damage_more, noise};
 use crate::generate::{cost, reward, sheet, Prices, Shape};
 use crate::random::Random;
 use crate::sheet::Edge;
@@ -22,8 +22,8 @@ const KINDS: [(&str, u64); 16] = [
     ("extreme", 50),
     ("ring", 20),
     ("long", 20),
-    ("damaged", 180),
-    ("twice damaged", 40),
+    ("damaged", 130),
+    ("damaged more", 90),
     ("noise", 30),
 ];
 
@@ -169,13 +169,14 @@ pub fn generate(seed: u64) -> (&'static str, Vec<u8>) {
         "dense" => border_bytes(random, true),
         "ring" => ring_bytes(random),
         "long" => long_bytes(random),
-        "damaged" | "twice damaged" => {
+        "damaged" | "damaged more" => {
             let shape = shape_of(random, "small");
             let made = write(&sheet(random, &shape));
-            let mut bytes = damage(random, made);
-            let more = if kind == "damaged" { 0 } else { 1 + random.below(4) };
-            scatter(random, &mut bytes, more);
-            bytes
+            if kind == "damaged" {
+                damage(random, &made)
+            } else {
+                damage_more(random, &made)
+            }
         }
         "noise" => noise(random),
         _ => {

@@ -11,6 +11,7 @@ mod fault;
 mod generate;
 mod graphs;
 mod hexadecimal;
+mod judge_check;
 mod judge_lasso;
 mod judge_plan;
 mod judge_step;
