@@ -1,0 +1,123 @@
+//! The kinds of cases that the random sheets promise to cover.
+
+use crate::expected::{weighted, Expected};
+use crate::explore::{Graph, MOST_NODES};
+use crate::judge_plan::Answer;
+use crate::sheet::Sheet;
+use crate::tally::Tally;
+use crate::weights::least_weights;
+
+/// How many sheets are made where no number is given.
+pub const SHEETS: u64 = 20_000;
+
+/// Each kind and the least number of its cases among so many sheets.
+pub const PROMISED: [(&str, u64); 53] = [
+    ("plan answers:   0", 4000),
+    ("plan answers:   1", 20_000),
+    ("plan answers:   2", 100),
+    ("plan answers:   3", 100),
+    ("plan answers:   4", 100),
+    ("plan answers:   5", 100),
+    ("plan answers:   6", 100),
+    ("plan answers:   7", 100),
+    ("plan answers:   8", 100),
+    ("plan answers:   9", 100),
+    ("plan answers:  10", 100),
+    ("plan answers:  11", 100),
+    ("plan answers:  12", 200),
+    ("plan answers:  13", 200),
+    ("plan answers:  14", 200),
+    ("plan answers: 255", 20_000),
+    ("step answers:   0", 100_000),
+    ("step answers:   2", 1000),
+    ("step answers:   3", 1000),
+    ("step answers:   4", 1000),
+    ("step answers:   5", 1000),
+    ("step answers:   6", 1000),
+    ("step answers:   7", 1000),
+    ("step answers:   8", 1000),
+    ("step answers:   9", 1000),
+    ("step answers:  10", 1000),
+    ("step answers:  11", 1000),
+    ("step answers:  15", 100_000),
+    ("step answers:  16", 100_000),
+    ("step answers: 255", 20_000),
+    ("accepted: 1 clock", 500),
+    ("accepted: 2 clocks", 500),
+    ("accepted: 3 clocks", 500),
+    ("accepted: all bounds and guards closed", 500),
+    ("accepted: some bound or guard strict", 500),
+    ("accepted: ratio below 0", 500),
+    ("accepted: ratio 0", 50),
+    ("accepted: ratio not whole", 500),
+    ("accepted: q above 100,000", 100),
+    ("accepted: a potential below 0", 500),
+    ("accepted: a potential below -10^10", 50),
+    ("accepted: no stem", 100),
+    ("accepted: a stem", 100),
+    ("accepted: time passes in the cycle", 100),
+    ("accepted: 2,000 to 2,047 nodes", 50),
+    ("accepted: 2,048 nodes", 50),
+    ("accepted: 40,000 arcs and more", 50),
+    ("longer buffers, plan answers:  0", 500),
+    ("longer buffers, plan answers: 12", 50),
+    ("longer buffers, plan answers: 13", 50),
+    ("refused 12: 2,049 nodes", 50),
+    ("refused 14: another cycle earns", 100),
+    ("length: 580 bytes", 100),
+];
+
+pub fn all_closed(sheet: &Sheet) -> bool {
+    let bounds = sheet.locations.iter().flat_map(|at| &at.upper[..sheet.clocks]);
+    let uppers = sheet.edges.iter().flat_map(|edge| edge.upper.iter().flatten());
+    let lowers = sheet.edges.iter().flat_map(|edge| edge.lower.iter().flatten());
+    bounds.chain(uppers).all(|byte| byte % 2 == 1) && { lowers }.all(|byte| byte % 2 == 0)
+}
+
+pub fn count_accepted(tally: &mut Tally, sheet: &Sheet, graph: &Graph, answer: &Answer) {
+    let nodes = graph.numbers.len();
+    let plural = if sheet.clocks == 1 { "" } else { "s" };
+    tally.count(format!("accepted: {} clock{plural}", sheet.clocks));
+    let strictness = if all_closed(sheet) {
+        "all bounds and guards closed"
+    } else {
+        "some bound or guard strict"
+    };
+    tally.count(format!("accepted: {strictness}"));
+    let kinds = [
+        ("ratio below 0", answer.p < 0),
+        ("ratio 0", answer.p == 0),
+        ("ratio not whole", answer.q > 1),
+        ("q above 100,000", answer.q > 100_000),
+        ("a potential below 0", answer.lowest_potential < 0),
+        ("a potential below -10^10", answer.lowest_potential < -10_000_000_000),
+        ("no stem", answer.stem == 0),
+        ("a stem", answer.stem > 0),
+        ("time passes in the cycle", answer.units > 0),
+        ("2,048 nodes", nodes == MOST_NODES),
+        ("2,000 to 2,047 nodes", (2000..MOST_NODES).contains(&nodes)),
+        ("40,000 arcs and more", graph.arcs.len() >= 40_000),
+    ];
+    for (kind, _) in kinds.iter().filter(|(_, holds)| *holds) {
+        tally.count(format!("accepted: {kind}"));
+    }
+}
+
+/// Where a cycle earns, it weighs less than 0 once rewards are deducted.
+fn some_cycle_earns(graph: &Graph) -> bool {
+    least_weights(graph.numbers.len(), &weighted(graph, 1, 0)).is_none()
+}
+
+pub fn count_refused(tally: &mut Tally, expected: &Expected) {
+    let graph = match &expected.graph {
+        Some(graph) => graph,
+        None => return,
+    };
+    let nodes = graph.numbers.len();
+    if expected.refusal == 12 && nodes == MOST_NODES + 1 {
+        tally.count("refused 12: 2,049 nodes");
+    }
+    if expected.refusal == 14 && some_cycle_earns(graph) {
+        tally.count("refused 14: another cycle earns");
+    }
+}

@@ -1,0 +1,42 @@
+//! The reachable nodes and the steps between them, breadth first.
+
+use crate::region::{node_of, step, Node, MOVE};
+use crate::sheet::Sheet;
+use std::collections::HashMap;
+
+pub struct Arc {
+    pub from: usize,
+    pub to: usize,
+    pub cost: i64,
+    pub reward: i64,
+}
+
+pub struct Graph {
+    /// Node numbers in the order of discovery; the start is the first.
+    pub numbers: Vec<u32>,
+    pub arcs: Vec<Arc>,
+}
+
+pub const MOST_NODES: usize = 2048;
+
+/// Explores until more than `limit` nodes are found; then the graph is not whole.
+pub fn explore(sheet: &Sheet, limit: usize) -> Graph {
+    let start = node_of(sheet, 0).expect("the start is a node of every sheet that is read");
+    let mut found: HashMap<u32, usize> = HashMap::from([(0, 0)]);
+    let mut nodes: Vec<Node> = vec![start];
+    let mut arcs = Vec::new();
+    let mut from = 0;
+    while from < nodes.len() && nodes.len() <= limit {
+        for code in 0..=MOVE {
+            if let Some((next, cost, reward)) = step(sheet, &nodes[from], code) {
+                let to = *found.entry(next.number()).or_insert_with(|| {
+                    nodes.push(next);
+                    nodes.len() - 1
+                });
+                arcs.push(Arc { from, to, cost, reward });
+            }
+        }
+        from += 1;
+    }
+    Graph { numbers: nodes.iter().map(Node::number).collect(), arcs }
+}

@@ -1,0 +1,71 @@
+//! A lasso: it is stepped here and by the library, closes, is simple, and has exactly the ratio.
+
+use crate::fault::Planner;
+use crate::judge_plan::{same, Verdict};
+use crate::library::Buffers;
+use crate::region::{node_of, step};
+use crate::sheet::Sheet;
+use std::collections::HashSet;
+
+/// The length of the `out` lent to a step along a lasso; other steps are lent shorter ones.
+pub const LASSO_OUT: usize = 8;
+
+/// A step along the lasso, taken here and by the library: the next node, its cost and reward.
+fn take(
+    planner: &Planner,
+    bytes: &[u8],
+    sheet: &Sheet,
+    number: u32,
+    code: u16,
+) -> Verdict<(u32, i64, i64)> {
+    let node = node_of(sheet, number).expect("a lasso is stepped from node to node");
+    let (next, cost, reward) = step(sheet, &node, code)
+        .ok_or_else(|| format!("lasso: code {code} is not allowed at node {number}"))?;
+    let mut out = [0; LASSO_OUT];
+    same("lasso: the library's own step", planner.step(bytes, number, code, &mut out), 0)?;
+    same(
+        "lasso: the library's own step",
+        &out[..3],
+        &[i64::from(next.number()), cost, reward][..],
+    )?;
+    Ok((next.number(), cost, reward))
+}
+
+pub fn judge_lasso(
+    planner: &Planner,
+    bytes: &[u8],
+    sheet: &Sheet,
+    buffers: &Buffers,
+    out: &[i64],
+) -> Verdict<()> {
+    let [p, q, n, s, m] = [out[0], out[1], out[2], out[3], out[4]];
+    if s < 0 || m < 1 || s > n || m > n || s + m > n {
+        return Err(format!("lasso: a stem of {s} and a cycle of {m} steps with {n} nodes"));
+    }
+    let (stem, length) = (s as usize, (s + m) as usize);
+    if buffers.steps[length..].iter().any(|&entry| entry != 0) {
+        return Err("rest of the steps: an entry is not 0".to_string());
+    }
+    let mut met = HashSet::from([0]);
+    let (mut number, mut closing) = (0, 0);
+    let (mut costs, mut rewards) = (0, 0);
+    for (place, &code) in buffers.steps[..length].iter().enumerate() {
+        if place == stem {
+            closing = number;
+        }
+        let (next, cost, reward) = take(planner, bytes, sheet, number, code)?;
+        if place >= stem {
+            costs += i128::from(cost);
+            rewards += i128::from(reward);
+        }
+        if !met.insert(next) && place + 1 < length {
+            return Err(format!("lasso: node {next} is met twice"));
+        }
+        number = next;
+    }
+    same("lasso: the node where it closes", number, closing)?;
+    if rewards < 1 || i128::from(q) * costs != i128::from(p) * rewards {
+        return Err(format!("lasso: its cycle has {costs}/{rewards}, the ratio is {p}/{q}"));
+    }
+    Ok(())
+}

@@ -1,0 +1,104 @@
+//! Single steps of the library against the steps taken here.
+
+use crate::expected::Expected;
+use crate::fault::Planner;
+use crate::judge_plan::{lend_out, same, Verdict};
+use crate::random::Random;
+use crate::region::{node_of, step, Node};
+use crate::sheet::Sheet;
+use crate::tally::Tally;
+
+/// The refusal, the new node's number, the cost and the reward.
+pub fn expected_step(bytes_read: Result<&Sheet, u8>, number: u32, code: u16) -> (u8, [i64; 3]) {
+    let sheet = match bytes_read {
+        Ok(sheet) => sheet,
+        Err(refusal) => return (refusal, [0; 3]),
+    };
+    match node_of(sheet, number) {
+        None => (15, [0; 3]),
+        Some(node) => match step(sheet, &node, code) {
+            None => (16, [0; 3]),
+            Some((next, cost, reward)) => (0, [i64::from(next.number()), cost, reward]),
+        },
+    }
+}
+
+/// A number with the layout of a node's, of which many are those of nodes.
+fn likely_number(sheet: &Sheet, random: &mut Random) -> u32 {
+    let location = random.below(sheet.locations.len());
+    let mut node = Node { location, whole: [0; 3], class: [0; 3], corner: 0 };
+    let classes = random.pick(&[[0, 0, 1], [1, 1, 0], [1, 2, 2], [2, 1, 0], [2, 3, 1], [3, 1, 2]]);
+    let loose = random.percent(30);
+    for (j, class) in classes.into_iter().enumerate().take(sheet.clocks) {
+        let c = usize::from(sheet.locations[location].upper[j] / 2);
+        node.whole[j] = random.below(c + if loose { 3 } else { 1 }).min(15) as u8;
+        node.class[j] = if loose { random.below(4) as u8 } else { class };
+    }
+    let most = node.class.into_iter().max().unwrap_or(0) + u8::from(loose);
+    node.corner = random.within(0, i64::from(most)).min(3) as u8;
+    node.number()
+}
+
+fn numbers(expected: &Expected, random: &mut Random) -> Vec<u32> {
+    let (sheet, graph) = match (&expected.sheet, &expected.graph) {
+        (Some(sheet), Some(graph)) => (sheet, graph),
+        _ => return vec![0, random.next() as u32],
+    };
+    let reachable = |random: &mut Random| random.pick(&graph.numbers);
+    let flipped = reachable(random) ^ 1 << random.below(32);
+    let mut numbers = vec![reachable(random), reachable(random), reachable(random), flipped];
+    numbers.extend((0..4).map(|_| likely_number(sheet, random)));
+    numbers.push(random.next() as u32);
+    numbers.push(random.next() as u32 & 0xf_ffff);
+    numbers
+}
+
+fn judge_one(
+    planner: &Planner,
+    bytes: &[u8],
+    (number, code): (u32, u16),
+    (refusal, result): (u8, [i64; 3]),
+    random: &mut Random,
+) -> Verdict<()> {
+    let what = format!("step {code} at {number}");
+    let length = 3 + random.below(3);
+    let mut out = lend_out(random, length);
+    let later = out[3..].to_vec();
+    same(&what, planner.step(bytes, number, code, &mut out), refusal)?;
+    same(&what, &out[..3], &result[..])?;
+    same(&format!("{what}: later entries of out"), &out[3..], &later[..])
+}
+
+fn judge_short(planner: &Planner, bytes: &[u8], number: u32, random: &mut Random) -> Verdict<()> {
+    let length = random.below(3);
+    let mut out = lend_out(random, length);
+    let before = out.clone();
+    same("step with a short out", planner.step(bytes, number, 33, &mut out), 255)?;
+    same("step with a short out: its entries", out, before)
+}
+
+/// Every code from 0 to 40 and some far beyond, at nodes and at other numbers.
+pub fn judge_steps(
+    planner: &Planner,
+    bytes: &[u8],
+    expected: &Expected,
+    random: &mut Random,
+    tally: &mut Tally,
+) -> Verdict<()> {
+    let read = expected.sheet.as_ref().ok_or(expected.refusal);
+    let mut answers = [0; 256];
+    for number in numbers(expected, random) {
+        let far = [255, 256, 256 + 32, 256 + 33, 1 << 15 | 32, 65_535, random.next() as u16];
+        for code in (0..=40).chain(far) {
+            let answer = expected_step(read, number, code);
+            judge_one(planner, bytes, (number, code), answer, random)?;
+            answers[usize::from(answer.0)] += 1;
+        }
+        judge_short(planner, bytes, number, random)?;
+        answers[255] += 1;
+    }
+    for (answer, &count) in answers.iter().enumerate().filter(|(_, &count)| count > 0) {
+        tally.add(format!("step answers: {answer:>3}"), count);
+    }
+    Ok(())
+}

@@ -1,0 +1,63 @@
+//! Compares the proved planner with an implementation of its own, written from the specification.
+
+mod arguments;
+mod border;
+mod cases;
+mod coverage;
+mod damage;
+mod expected;
+mod explore;
+mod fault;
+mod generate;
+mod graphs;
+mod hexadecimal;
+mod judge_check;
+mod judge_lasso;
+mod judge_plan;
+mod judge_step;
+mod kinds;
+mod library;
+mod nths;
+mod program;
+mod random;
+mod region;
+mod runs;
+mod sha256;
+mod sheet;
+mod sheets;
+mod tally;
+mod weights;
+mod write;
+
+use std::process::ExitCode;
+
+const USAGE: &str = "compare COMMAND [--seed N] [--count N] [--complete] [--fault NAME]
+  sheets               random sheets through the library and the implementation here
+  cases FOLDER         the frozen cases
+  program FILE FOLDER  the printing program on the frozen plans
+  nths                 a search for a loop below the ratio among runs in nths
+  graphs [FOLDER]      the graphs of accepted sheets, for the solvers";
+
+fn run() -> Result<(), String> {
+    let mut words = std::env::args().skip(1);
+    let command = words.next().unwrap_or_default();
+    let arguments = arguments::parse(words)?;
+    match command.as_str() {
+        "sheets" => sheets::run(&arguments),
+        "cases" => cases::run(&arguments),
+        "program" => program::run(&arguments),
+        "nths" => nths::run(&arguments),
+        "graphs" => graphs::run(&arguments),
+        _ => Err(USAGE.to_string()),
+    }
+}
+
+fn main() -> ExitCode {
+    match run() {
+        Ok(()) => ExitCode::SUCCESS,
+        Err(message) => {
+            eprintln!("FAILED {message}");
+            ExitCode::FAILURE
+        }
+    }
+}

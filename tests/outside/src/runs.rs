@@ -1,0 +1,114 @@
+//! Runs in nths and their loops. No region is used here: a state is a location and clock values
+//! in nths.
+//!
+//! Delays of one nth are enough. Bounds are upper bounds only, so a delay of d nths that ends within
+//! them passes within them too, and is d delays of one nth with the same cost and reward. A delay of
+//! 0 is a loop of cost and reward 0, and never below a ratio. Bounds keep the values at 12 times n at
+//! most, so the states are finite, and a run comes back just where their graph has a cycle.
+
+use crate::sheet::{Edge, Sheet};
+use crate::weights::{has_cycle, least_weights, Weighted};
+use std::collections::HashMap;
+
+#[derive(Clone, Copy, PartialEq, Eq, Hash)]
+struct State {
+    location: usize,
+    values: [u32; 3],
+}
+
+/// An arc between states, with n times its cost and n times its reward.
+struct Member {
+    from: usize,
+    to: usize,
+    cost: i64,
+    reward: i64,
+}
+
+pub struct Runs {
+    pub states: usize,
+    members: Vec<Member>,
+}
+
+/// A sheet with more states than this is left alone.
+const MOST_STATES: usize = 30_000;
+
+fn at_most(upper: u8, value: u32, n: u32) -> bool {
+    let bound = u32::from(upper / 2) * n;
+    value < bound || upper % 2 == 1 && value == bound
+}
+
+fn at_least(lower: u8, value: u32, n: u32) -> bool {
+    let bound = u32::from(lower / 2) * n;
+    value > bound || lower % 2 != 1 && value == bound
+}
+
+fn admitted(sheet: &Sheet, state: &State, n: u32) -> bool {
+    let upper = &sheet.locations[state.location].upper;
+    (0..sheet.clocks).all(|j| at_most(upper[j], state.values[j], n))
+}
+
+fn after_edge(sheet: &Sheet, state: &State, edge: &Edge, n: u32) -> Option<State> {
+    let holds = |j: usize| {
+        edge.lower[j].is_none_or(|lower| at_least(lower, state.values[j], n))
+            && edge.upper[j].is_none_or(|upper| at_most(upper, state.values[j], n))
+    };
+    if edge.source != state.location || !(0..sheet.clocks).all(holds) {
+        return None;
+    }
+    let mut next = State { location: edge.target, ..*state };
+    for j in (0..sheet.clocks).filter(|j| edge.mask >> j & 1 == 1) {
+        next.values[j] = 0;
+    }
+    Some(next)
+}
+
+fn after_one_nth(sheet: &Sheet, state: &State) -> State {
+    let mut next = *state;
+    next.values[..sheet.clocks].iter_mut().for_each(|value| *value += 1);
+    next
+}
+
+/// All states that runs in nths reach, or none where they are too many.
+pub fn explore(sheet: &Sheet, n: u32) -> Option<Runs> {
+    let start = State { location: 0, values: [0; 3] };
+    let mut found = HashMap::from([(start, 0)]);
+    let mut states = vec![start];
+    let mut members = Vec::new();
+    let mut from = 0;
+    while from < states.len() {
+        let state = states[from];
+        let here = &sheet.locations[state.location];
+        let mut ways = vec![(after_one_nth(sheet, &state), here.cost, here.reward)];
+        for edge in &sheet.edges {
+            let next = after_edge(sheet, &state, edge, n);
+            let (cost, reward) = (edge.cost * i64::from(n), edge.reward * i64::from(n));
+            ways.extend(next.map(|next| (next, cost, reward)));
+        }
+        for (next, cost, reward) in ways.into_iter().filter(|way| admitted(sheet, &way.0, n)) {
+            let to = *found.entry(next).or_insert_with(|| {
+                states.push(next);
+                states.len() - 1
+            });
+            members.push(Member { from, to, cost, reward });
+        }
+        if states.len() > MOST_STATES {
+            return None;
+        }
+        from += 1;
+    }
+    Some(Runs { states: states.len(), members })
+}
+
+/// Whether some loop has a ratio below p/q.
+pub fn loop_below(runs: &Runs, p: i128, q: i128) -> bool {
+    let weight = |member: &Member| q * i128::from(member.cost) - p * i128::from(member.reward);
+    let arcs: Vec<Weighted> =
+        runs.members.iter().map(|member| (member.from, member.to, weight(member))).collect();
+    least_weights(runs.states, &arcs).is_none()
+}
+
+/// Whether some run comes back by a delay or an edge.
+pub fn some_loop(runs: &Runs) -> bool {
+    let ends: Vec<_> = runs.members.iter().map(|member| (member.from, member.to)).collect();
+    has_cycle(runs.states, &ends)
+}
