@@ -1,17 +1,23 @@
 -- The records of a step are those of the sheet; and a list that is copied to the front of blank entries.
-use mathlib.Core.Path.{_≡_, sym, ap, subst, _∙_}
+use mathlib.Core.Path.{_≡_, refl, sym, ap, subst, _∙_}
+use mathlib.Core.Bool.{Bool, true, false, _&&_, not}
+use mathlib.Core.Option.{none}
 use mathlib.Core.List.{List}
 use Prim.Native.Nat.{ℕ, _+_, _≤_, _<_}
 use native.Mathlib.Omega.{arith}
 use native.Mathlib.Decide.{ℕ-discrete, decLt}
+use borrow.Author.Tests.{le-leb, ltb-true, eq-eqb, ne-eqb}
+use lib.Dec.{ltb, eqb}
 use lib.ListN.{length, getD, set, replicate, length-set, length-replicate, getD-replicate, List·getD-eq-default}
 use lib.Seq.{getD-set-same, getD-set-other}
 use Rattle.sheet.specs.Decoded.{blankEdge}
 use Rattle.sheet.specs.declared.Edge.{Edge}
 use Rattle.sheet.specs.declared.Location.{Location}
 use Rattle.sheet.specs.declared.Sheet.{Sheet}
-use Rattle.nodes.specs.Numbers.{firstLayout, stepBy}
-use Rattle.nodes.specs.Decoded.{decodedMeaning, alone}
+use Rattle.automaton.specs.Steps.{step, edgeStep}
+use Rattle.automaton.proofs.Tests.{&&-left, &&-right}
+use Rattle.nodes.specs.Numbers.{firstLayout, bitsOf, nodeOf, stepBy}
+use Rattle.nodes.specs.Decoded.{decodedMeaning, edgeIn, alone}
 use Rattle.region.specs.Answers.{answered, refused}
 use Rattle.region.specs.declared.Stepped.{Stepped}
 use Rattle.step.proofs.SheetLaws.{no-edge, edge-there, delay-there}
@@ -63,3 +69,22 @@ module _ (s : Sheet) (x k clocks count : ℕ) (edge : Edge) (target here : Locat
   pub delay-by-record : (c : ℕ) → k ≡ c → 31 < c → Is (answered (stepBy firstLayout (alone clocks blankEdge here) x c))
   delay-by-record c e h = ap (λ (n : ℕ). answered (stepBy firstLayout (alone n blankEdge here) x c)) (r .clocks-are)
       ∙ delay-there s x k c e h here (r .here-is)
+
+-- ---- an edge of another location is not allowed
+both-false : (b c : Bool) → b && (false && c) ≡ false
+both-false true c = refl
+both-false false c = refl
+
+pub not-here : (s : Sheet) (x k : ℕ) → k < 32 → (edgeIn s k .source ≡ bitsOf x 4 20 → ⊥) → stepBy firstLayout (decodedMeaning s) x k ≡ none
+unfolding stepBy step edgeStep decodedMeaning nodeOf
+not-here s x k h n = simp (le-leb k 31 (omega arith), ne-eqb _ _ n, both-false)
+
+pub told-elsewhere : (k a b : ℕ) (r : Bool) → r ≡ (ltb k 32 && not (eqb a b)) → r ≡ true → (k < 32) × (a ≡ b → ⊥)
+told-elsewhere k a b r e h = (
+  ltb-true k 32 (&&-left (ltb k 32) (not (eqb a b)) (sym e ∙ h)),
+  λ p. not-true (eqb a b) (eq-eqb a b p) (&&-right (ltb k 32) (not (eqb a b)) (sym e ∙ h)),
+)
+  where
+    not-true : (b : Bool) → b ≡ true → not b ≡ true → ⊥
+    not-true true p q = let z : _≡_ {A = ℕ} 0 1 = cc in omega arith
+    not-true false p q = let z : _≡_ {A = ℕ} 0 1 = cc in omega arith

@@ -43,8 +43,13 @@ pub(crate) fn search(
         let x = nodes[i];
         let j = k % 32;
         let edge = edges[j];
+        let location = region::location_in(x);
+        if crate::steps::elsewhere(k, edge.source, location) {
+            t += 1;
+            continue;
+        }
         let e = crate::steps::place(edge.target);
-        let l = crate::steps::place(region::location_in(x));
+        let l = crate::steps::place(location);
         let target = locations[e];
         let here = locations[l];
         let s = crate::steps::step_at(x, k, sheet.clocks, sheet.edges, edge, target, here);

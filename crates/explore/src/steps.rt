@@ -1,6 +1,8 @@
 // One step of a sheet by the records that it needs, so that the sheet itself is not passed on with each step.
 ghost use mathlib.Core.Path.{_≡_};
 ghost use Prim.Native.Nat.{ℕ, _<_};
+ghost use mathlib.Core.Bool.{_&&_, not};
+ghost use lib.Dec.{ltb, eqb};
 ghost use lib.ListN.{length, getD};
 ghost use Rattle.sheet.specs.Decoded.{blankLocation};
 ghost use Rattle.sheet.specs.declared.Sheet.{Sheet};
@@ -42,6 +44,16 @@ pub(crate) fn place(x: u8) -> usize
     ensures { λ r. ⌜ r ≡ x ⌝ ∗ ⌜ r < 256 ⌝ }
 {
     x as usize
+}
+
+// Whether k is the code of an edge that leaves another location than `here`: most are.
+pub(crate) fn elsewhere(k: usize, source: u8, here: u8) -> bool
+    ensures { λ r. ⌜ r ≡ (ltb k 32 && not (eqb source here)) ⌝ }
+{
+    if k < 32 {
+        return source != here;
+    }
+    false
 }
 
 // The step with code k at the node x. The records are the edge's, where k is the code of one, its target's, and that of the location that x tells.
