@@ -27,8 +27,10 @@ pub(crate) fn search(
         (buffers (now (nodes .exit)) (now (sorted .exit)) (now (order .exit)) (now (tree .exit))
         (now (from .exit)) (now (to .exit)) (now (code .exit)) (now (cost .exit)) (now (reward .exit))) r ⌝ }
 {
-    let edges = sheet.edge;
-    let source = crate::steps::sources(edges);
+    let written = sheet.edge;
+    let edges = crate::steps::records(written);
+    let listed = sheet.location;
+    let locations = crate::steps::by_byte(listed);
     nodes[0] = 0;
     sorted[0] = 0;
     order[0] = 0;
@@ -40,7 +42,17 @@ pub(crate) fn search(
         let k = t % 34;
         let x = nodes[i];
         let j = k % 32;
-        let s = crate::steps::step_at(sheet, x, k, source[j]);
+        let edge = edges[j];
+        let location = region::location_in(x);
+        if crate::steps::elsewhere(k, edge.source, location) {
+            t += 1;
+            continue;
+        }
+        let e = crate::steps::place(edge.target);
+        let l = crate::steps::place(location);
+        let target = locations[e];
+        let here = locations[l];
+        let s = crate::steps::step_at(x, k, sheet.clocks, sheet.edges, edge, target, here);
         let v = crate::turns::take_turn(
             nodes,
             sorted,

@@ -1,38 +1,82 @@
-// One step of the sheet, where most edges are told to be of another location by their source alone.
+// One step of a sheet by the records that it needs, so that the sheet itself is not passed on with each step.
 ghost use mathlib.Core.Path.{_≡_};
-ghost use Prim.Native.Nat.{ℕ, _≤_, _<_};
-ghost use lib.ListN.{getD};
-ghost use Rattle.sheet.specs.Decoded.{blankEdge};
+ghost use Prim.Native.Nat.{ℕ, _<_};
+ghost use mathlib.Core.Bool.{_&&_, not};
+ghost use lib.Dec.{ltb, eqb};
+ghost use lib.ListN.{length, getD};
+ghost use Rattle.sheet.specs.Decoded.{blankLocation};
+ghost use Rattle.sheet.specs.declared.Sheet.{Sheet};
 ghost use Rattle.nodes.specs.Numbers.{firstLayout, stepBy};
-ghost use Rattle.nodes.specs.Decoded.{decodedMeaning, edgeIn};
+ghost use Rattle.nodes.specs.Decoded.{decodedMeaning};
 ghost use Rattle.region.specs.Answers.{answered};
+ghost use Rattle.explore.specs.Records.{Records};
 use region::Stepped;
 use sheet::Edge;
-use sheet::Sheet;
+use sheet::Location;
 
-// The source of each edge.
-pub(crate) fn sources(edges: [Edge; 32]) -> [u8; 32]
-    ensures { λ r. ⌜ ((k : ℕ) → k < 32 → getD r k 0 ≡ getD edges k blankEdge .source) ⌝ }
+// The edges' records: that there are 32 of them is told of a parameter, and not of a field.
+pub(crate) fn records(edges: [Edge; 32]) -> [Edge; 32]
+    ensures { λ r. ⌜ r ≡ edges ⌝ ∗ ⌜ length r ≡ 32 ⌝ }
 {
-    let mut all = [0u8; 32];
+    edges
+}
+
+// The locations' records at every number that a byte can be, blank ones past the last.
+pub(crate) fn by_byte(locations: [Location; 12]) -> [Location; 256]
+    ensures { λ r. ⌜ ((l : ℕ) → l < 256 → getD r l blankLocation ≡ getD locations l blankLocation) ⌝ }
+{
+    let blank = Location {
+        cost: 0,
+        reward: 0,
+        upper: [0, 0, 0],
+    };
+    let mut all = [blank; 256];
     let mut i = 0;
-    while i < 32 {
-        let edge = edges[i];
-        all[i] = edge.source;
+    while i < 12 {
+        let location = locations[i];
+        all[i] = location;
         i += 1;
     }
     all
 }
 
-// The step with code k at the node x; `source` is the edge's, where k is the code of one.
-pub(crate) fn step_at(sheet: Sheet, x: u32, k: usize, source: u8) -> Stepped
-    requires { ⌜ k < 34 ⌝ ∗ ⌜ (k ≤ 31 → source ≡ edgeIn sheet k .source) ⌝ }
-    ensures { λ r. ⌜ r ≡ answered (stepBy firstLayout (decodedMeaning sheet) x k) ⌝ }
+pub(crate) fn place(x: u8) -> usize
+    ensures { λ r. ⌜ r ≡ x ⌝ ∗ ⌜ r < 256 ⌝ }
+{
+    x as usize
+}
+
+// Whether k is the code of an edge that leaves another location than `here`: most are.
+pub(crate) fn elsewhere(k: usize, source: u8, here: u8) -> bool
+    ensures { λ r. ⌜ r ≡ (ltb k 32 && not (eqb source here)) ⌝ }
 {
     if k < 32 {
-        if source != region::location_in(x) {
-            return region::refused(16);
-        }
+        return source != here;
     }
-    step::step_from(sheet, x, k as u16)
+    false
+}
+
+// The step with code k at the node x. The records are the edge's, where k is the code of one, its target's, and that of the location that x tells.
+pub(crate) fn step_at(
+    x: u32,
+    k: usize,
+    clocks: u8,
+    count: u8,
+    edge: Edge,
+    target: Location,
+    here: Location,
+) -> Stepped
+    requires { ⌜ k < 34 ⌝ }
+    ensures { λ r. ⌜ ((s : Sheet) → Records s x k clocks count edge target here → r ≡ answered (stepBy firstLayout (decodedMeaning s) x k)) ⌝ }
+{
+    match k {
+        0..=31 => {
+            if place(count) <= k {
+                return region::refused(16);
+            }
+            region::edges::edge_step(x, clocks, edge, target)
+        }
+        32 => region::delays::unit_step(x, clocks, here),
+        _ => region::delays::move_step(x, clocks, here),
+    }
 }
