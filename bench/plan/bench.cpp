@@ -28,6 +28,26 @@ struct Answer {
 size_t deepest = 0;
 bool failed = false;
 
+// The accepted sheets of at least so many nodes.
+struct Total {
+    unsigned least_nodes, sheets = 0;
+    double proved = 0, cpp = 0, ratios = 0;
+};
+Total all{0}, large{1800};
+
+void count(Total &total, const Row &row) {
+    if (row.plan.refusal || row.plan.nodes < total.least_nodes) return;
+    total.sheets++;
+    total.proved += row.proved;
+    total.cpp += row.cpp;
+    total.ratios += row.proved / row.cpp;
+}
+
+void print_total(const char *of, const Total &total) {
+    std::printf("%s: %u sheets, %.2f of the C++ time in all; mean of the rows' ratios %.2f.\n", of, total.sheets, total.proved / total.cpp,
+                total.ratios / total.sheets);
+}
+
 void call_proved(const std::vector<uint8_t> &bytes, Answer &a) {
     a.refusal = planner_plan(bytes.data(), bytes.size(), a.buffers.nodes.data(), most_nodes, a.buffers.potentials.data(), most_nodes,
                              a.buffers.steps.data(), most_nodes, a.out, 5);
@@ -87,6 +107,8 @@ Row run_row(const Made &made, const char *what) {
     }
     Row row = measure(made.bytes);
     failed = failed || !row.agree;
+    count(all, row);
+    count(large, row);
     print_row(row);
     return row;
 }
@@ -134,7 +156,10 @@ int main(int count, char **words) {
     grow_arcs(3);
     head("More nodes than a plan may have");
     for (const Kind &kind : {sparse2, sparse3, dense3}) run_row(make_overfull(kind), "too many nodes");
-    std::printf("\nPeak stack of planner_plan: %zu KB; it has to stay under 2048 KB.\n", (deepest + 1023) / 1024);
+    std::printf("\n");
+    print_total("Accepted", all);
+    print_total("Accepted, 1,800 nodes or more", large);
+    std::printf("Peak stack of planner_plan: %zu KB; it has to stay under 2048 KB.\n", (deepest + 1023) / 1024);
     if (!write_plot(words[1], {nodes, arcs})) {
         std::fprintf(stderr, "cannot write %s\n", words[1]);
         return 2;
