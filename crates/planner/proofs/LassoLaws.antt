@@ -19,7 +19,7 @@ use Rattle.contract.specs.Explored.{Found}
 use Rattle.contract.proofs.Graphs.{exact-turned}
 use Rattle.planner.specs.Hands.{Cyclic, Pickable}
 
-module _ (F T C order tree cycle : List ℕ) (n k s : ℕ) (arcs arcs' : List ℕ) (c : Cyclic F T C order tree cycle n k)
+module _ {F T C order tree cycle : List ℕ} {n k s : ℕ} {arcs arcs' : List ℕ} (c : Cyclic F T C order tree cycle n k)
     (sized : length arcs' ≡ 4096) (laid : LaidOut F T cycle n k s arcs arcs') where
   abbrev pub stem : List ℕ
   stem = take s arcs'
