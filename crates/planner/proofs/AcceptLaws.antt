@@ -12,6 +12,7 @@ use Rattle.contract.specs.Plan.{Buffers, LongEnough, Planned, Answer}
 use Rattle.contract.specs.Explored.{Found}
 use Rattle.contract.proofs.Hand.{Sorted, InHand}
 use Rattle.contract.proofs.Exits.{accepted}
+use Rattle.planner.specs.Lent as Lent
 use Rattle.planner.specs.Lent.{lent}
 use Rattle.planner.specs.Hands.{cleared, Picked, Pickable, Cyclic, Solved, graphOf}
 use Rattle.planner.proofs.ListLaws.{cleared-sized, cleared-front, cleared-rest}
@@ -99,11 +100,11 @@ module _ {F T C order tree cycle : List ℕ} {D : List ℤ} {n k s : ℕ} {p : �
       sized-steps : length (cleared 0 S' (s + k)) ≡ length S
       sized-steps = written-sized step-room encoded
 
-  answered : Planned (o .of-sheet .bytes) (o .of-sheet .before) after (record { refusal = 0; p = p; q = q; n = n; s = s; m = k })
+  answered : Planned (o .of-sheet .bytes) (o .of-sheet .before) after (Lent.accepted p q n s k)
   answered = subst (Planned (o .of-sheet .bytes) (o .of-sheet .before) after)
-      (ap₂ (λ (i j : ℕ). record { refusal = 0; p = p; q = q; n = n; s = i; m = j }) stem-sized turned-sized)
+      (ap₂ (Lent.accepted p q n) stem-sized turned-sized)
       (accepted (o .of-sheet .bytes) (o .of-sheet .before) after g p q D order stem turned hand)
 
   pub accepted-planned : {N' : List ℕ} {P'' : List ℤ} {S'' : List ℕ} {a : Answer} → N' ≡ cleared 0 N n → P'' ≡ cleared (pos 0) P' n → S'' ≡ cleared 0 S' (s + k)
-      → a ≡ record { refusal = 0; p = p; q = q; n = n; s = s; m = k } → Planned (o .of-sheet .bytes) (o .of-sheet .before) (lent N' P'' S'') a
+      → a ≡ Lent.accepted p q n s k → Planned (o .of-sheet .bytes) (o .of-sheet .before) (lent N' P'' S'') a
   accepted-planned en ep es e = rw (en, ep, es, e) answered

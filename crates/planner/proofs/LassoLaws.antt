@@ -46,15 +46,18 @@ module _ {F T C order tree cycle : List ℕ} {n k s : ℕ} {arcs arcs' : List �
   pub joined-at : (i : ℕ) → i < s + k → at (stem ++ turned) i ≡ at arcs' i
   joined-at i h = ap (λ (l : List ℕ). at l i) (sym (slice-join 0 s (s + k) arcs' (omega arith) (omega arith))) ∙ getD-take (s + k) arcs' i 0 h
 
-  pub codes-pickable : (steps : List ℕ) → 2048 ≤ length steps → Pickable C arcs' (s + k) steps
-  codes-pickable steps h = record {
+  arc : (i : ℕ) → i < s + k → at arcs' i < length C
+  arc i l = omega (
+    arith,
+    sym (joined-at i l),
+    c .codes,
+    lasso-arc F T (length F) stem turned is-lasso i (omega (arith, stem-sized, turned-sized)),
+  )
+
+  pub codes-pickable : {j : ℕ} (steps : List ℕ) → 2048 ≤ length steps → j ≤ s + k → Pickable C arcs' j steps
+  codes-pickable steps h m = record {
     named = omega (arith, room);
-    there = λ i l. omega (
-      arith,
-      sym (joined-at i l),
-      c .codes,
-      lasso-arc F T (length F) stem turned is-lasso i (omega (arith, stem-sized, turned-sized)),
-    );
+    there = λ i l. arc i (omega arith);
     room = omega (arith, short, c .formed .few);
   }
 

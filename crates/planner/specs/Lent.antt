@@ -10,3 +10,6 @@ lent nodes potentials steps = record { nodes = nodes; potentials = potentials; s
 
 abbrev pub answerOf : Answer → Contract.Answer
 answerOf a = record { refusal = a .refusal; p = a .p; q = a .q; n = a .n; s = a .s; m = a .m }
+
+abbrev pub accepted : ℤ → ℕ → ℕ → ℕ → ℕ → Contract.Answer
+accepted p q n s m = record { refusal = 0; p = p; q = q; n = n; s = s; m = m }

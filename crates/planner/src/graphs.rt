@@ -42,14 +42,7 @@ fn accept(
     crate::output::clear_potentials(potentials, n);
     crate::output::encode(code, &arcs, all, steps);
     crate::output::clear_steps(steps, all);
-    Answer {
-        refusal: 0,
-        p,
-        q: q as u32,
-        n: n as u16,
-        s: s as u16,
-        m: k as u16,
-    }
+    crate::output::accepted(p, q, n, s, k)
 }
 
 pub(crate) fn plan_graph(

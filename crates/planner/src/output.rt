@@ -1,10 +1,10 @@
 // What stands in the answer and in the lent buffers.
 ghost use mathlib.Core.Path.{_≡_};
-ghost use Prim.Native.Nat.{_≤_};
+ghost use Prim.Native.Nat.{_+_, _≤_};
 ghost use lib.IntN.{pos};
 ghost use lib.ListN.{length, replicate};
 ghost use Rattle.contract.specs.Plan as Contract;
-ghost use Rattle.planner.specs.Lent.{answerOf};
+ghost use Rattle.planner.specs.Lent.{answerOf, accepted};
 ghost use Rattle.planner.specs.Hands.{cleared, Picked, Pickable};
 use crate::Answer;
 
@@ -19,6 +19,21 @@ pub(crate) fn refused(refusal: u8) -> Answer
         n: 0,
         s: 0,
         m: 0,
+    }
+}
+
+// The numbers of an accepted sheet.
+pub(crate) fn accepted(p: i64, q: u64, n: usize, s: usize, m: usize) -> Answer
+    requires { ⌜ q ≤ 20480000 ⌝ ∗ ⌜ n ≤ 2048 ⌝ ∗ ⌜ s + m ≤ 2048 ⌝ }
+    ensures { λ r. ⌜ answerOf r ≡ accepted p q n s m ⌝ }
+{
+    Answer {
+        refusal: 0,
+        p,
+        q: q as u32,
+        n: n as u16,
+        s: s as u16,
+        m: m as u16,
     }
 }
 

@@ -1,5 +1,5 @@
 -- The lasso is laid out, and the three buffers are written.
-use mathlib.Core.Path.{_≡_, ap}
+use mathlib.Core.Path.{_≡_, ap, _∙_}
 use mathlib.Core.List.{List}
 use Prim.Native.Nat.{ℕ, _+_, _≤_}
 use native.Mathlib.Omega.{arith}
@@ -9,6 +9,7 @@ use lib.ListN.{length, replicate}
 use mir.Syntax.{w64}
 use mir.ValLaws.{toZ-ofZ}
 use Rattle.lasso.specs.Answer.{LaidOut}
+use Rattle.planner.specs.Lent.{accepted}
 use Rattle.planner.proofs.AcceptLaws.{accepted-planned}
 use Rattle.planner.proofs.LassoLaws.{short, codes-pickable, never, laid-of}
 use borrow.Author.Needs.{needs}
@@ -79,7 +80,7 @@ returns c =
     (arcs l) (l .lasso-of .result) (l .lasso-of .ensures) (c .before .enum-told .given .1) (s .pre .0 .formed))
 
 add-all : tie.Need-add-all
-add-all c = omega (arith, few (c .before))
+add-all c = omega (arith, few (c .before), S (L (c .before)) .pre .0 .formed .some)
 
 clear-nodes-requires : tie.Need-clear-nodes-requires
 clear-nodes-requires c κs = search needs
@@ -88,7 +89,11 @@ permute-requires : tie.Need-permute-requires
 permute-requires c κs =
     let s = S (L (c .before .before .before .before .before .before)) in
     let y = s .pre .0 in
-    record { named = y .ordered; there = λ i h. omega (arith, y .order-below i h, s .pre .1 .0); room = omega (arith, y .formed .few, s .pre .1 .1 .1 .potentials) }
+    record {
+      named = omega (arith, y .ordered);
+      there = λ i h. omega (arith, y .order-below i (omega arith), s .pre .1 .0);
+      room = omega (arith, y .formed .few, s .pre .1 .1 .1 .potentials);
+    }
 
 clear-potentials-requires : tie.Need-clear-potentials-requires
 clear-potentials-requires c κs =
@@ -103,25 +108,19 @@ encode-requires : tie.Need-encode-requires
 encode-requires c κs =
     let v = K (P c) in
     let s = S (L v) in
-    codes-pickable (s .pre .0) (sized (L v)) (laid v) (now (s .args .steps)) (s .pre .1 .1 .1 .steps)
+    codes-pickable (s .pre .0) (sized (L v)) (laid v) (now (s .args .steps)) (s .pre .1 .1 .1 .steps) (omega (arith, s .pre .0 .formed .some))
 
 clear-steps-requires : tie.Need-clear-steps-requires
 clear-steps-requires c κs =
     let e = c .before .before .before in
     let v = K (P (e .before)) in
-    omega (arith, few v, S (L v) .pre .1 .1 .1 .steps, e .encode .ensures .sized)
+    omega (arith, few v, S (L v) .pre .0 .formed .some, S (L v) .pre .1 .1 .1 .steps, e .encode .ensures .sized)
 
-cast-t34 : tie.Need-cast-t34
-cast-t34 c = omega (arith, S (L (K (P (E c .before)))) .pre .1 .1 .0)
-
-cast-t35 : tie.Need-cast-t35
-cast-t35 c = omega (arith, S (L (K (P (E c .before)))) .pre .0 .formed .few)
-
-cast-t36 : tie.Need-cast-t36
-cast-t36 c = omega (arith, few (K (P (E c .before))))
-
-cast-t37 : tie.Need-cast-t37
-cast-t37 c = omega (arith, few (K (P (E c .before))))
+accepted-requires : tie.Need-accepted-requires
+accepted-requires c κs =
+    let v = K (P (E c .before)) in
+    let s = S (L v) in
+    (s .pre .1 .1 .0, (s .pre .0 .formed .few, few v))
 
 same-length : tie.Need-same-length
 same-length c = search needs
@@ -134,13 +133,13 @@ same-length-3 c = search needs
 
 returns-2 : tie.Need-returns-2
 returns-2 c =
-    let e = E c in
+    let e = E (c .before) in
     let p = P (e .before) in
     let v = K p in
     let s = S (L v) in
     λ o. accepted-planned (s .pre .0) (s .pre .1 .1 .1) (sized (L v)) (laid v) (p .permute .ensures) (e .encode .ensures) o
-    (p .before .before .before .before .clear-nodes .ensures) (e .before .before .before .before .clear-potentials .ensures) (c .before .before .clear-steps .ensures)
-    (ap (λ (z : ℤ). record { refusal = 0; p = z; q = s .args .q; n = s .args .n; s = v .laid .given .0 .0; m = s .args .k }) (toZ-ofZ w64 (s .args .p) (s .fits .p)))
+    (p .before .before .before .before .clear-nodes .ensures) (e .before .before .before .before .clear-potentials .ensures) (c .before .before .before .clear-steps .ensures)
+    (c .accepted .ensures ∙ ap (λ (z : ℤ). accepted z (s .args .q) (s .args .n) (v .laid .given .0 .0) (s .args .k)) (toZ-ofZ w64 (s .args .p) (s .fits .p)))
 
 pub accept-spec : {M : Type 1} → statement M
 accept-spec =
@@ -159,10 +158,7 @@ accept-spec =
     slice-aggregate-encode
     encode-requires
     clear-steps-requires
-    cast-t34
-    cast-t35
-    cast-t36
-    cast-t37
+    accepted-requires
     same-length
     same-length-2
     same-length-3

@@ -35,8 +35,10 @@ returns c =
     let d = p .before .before .before .before in
     let s = d .before .before .before .before in (
       c .refused .ensures,
-      (d .clear-nodes .ensures ∙ cleared-whole 0 (now (s .args .nodes)),
-      (p .clear-potentials .ensures ∙ cleared-whole (pos 0) (now (s .args .potentials)), k .clear-steps .ensures ∙ cleared-whole 0 (now (s .args .steps)))),
+      (
+        d .clear-nodes .ensures ∙ cleared-whole 0 (now (s .args .nodes)),
+        (p .clear-potentials .ensures ∙ cleared-whole (pos 0) (now (s .args .potentials)), k .clear-steps .ensures ∙ cleared-whole 0 (now (s .args .steps))),
+      ),
     )
 
 pub refuse-spec : {M : Type 1} → statement M

@@ -166,9 +166,10 @@ plan-graph-requires : tie.Need-plan-graph-requires
 plan-graph-requires c κs =
     let v = K c in
     let x = X v in
-    let pre = S x .pre in
-    (handed (S x .args .read) (now (S x .args .nodes)) (B x) (x .explore .result) (x .explore .ensures) (n v) (m v) (v .outcome .given .1) (pre .0) (room v) (room-code v) (room-order v) (room-tree v),
-    record { nodes = omega (arith, pre .1 .nodes, same x .nodes); potentials = pre .1 .potentials; steps = pre .1 .steps })
+    let pre = S x .pre in (
+      handed (S x .args .read) (now (S x .args .nodes)) (B x) (x .explore .result) (x .explore .ensures) (n v) (m v) (v .outcome .given .1) (pre .0) (room v) (room-code v) (room-order v) (room-tree v),
+      record { nodes = omega (arith, pre .1 .nodes, same x .nodes); potentials = pre .1 .potentials; steps = pre .1 .steps },
+    )
 
 enum-told-2 : tie.Need-enum-told-2
 enum-told-2 c = search needs
