@@ -1,24 +1,24 @@
 -- The way out where the sheet is accepted: what was found and written is the contract.
 use mathlib.Core.Path.{_≡_, sym, ap, ap₂, _∙_, subst}
-use mathlib.Core.List.{List, _++_}
+use mathlib.Core.List.{List}
 use Prim.Native.Nat.{ℕ, _+_, _≤_, _<_}
 use native.Mathlib.Omega.{arith}
 use lib.IntN.{ℤ, pos}
 use lib.ListN.{length, getD, take}
 use lib.Seq.{slice}
-use Rattle.walks.specs.Walk.{at, atℤ}
+use Rattle.walks.specs.Walk.{at}
 use Rattle.lasso.specs.Answer.{LaidOut}
 use Rattle.contract.specs.Plan.{Buffers, LongEnough, Planned, Answer}
 use Rattle.contract.specs.Explored.{Found}
 use Rattle.contract.proofs.Hand.{Sorted, InHand}
 use Rattle.contract.proofs.Exits.{accepted}
 use Rattle.planner.specs.Lent.{lent}
-use Rattle.planner.specs.Hands.{cleared, Picked, Pickable, Cyclic, Solved, graphOf}
+use Rattle.planner.specs.Hands.{cleared, Picked, Cyclic, Solved, graphOf}
 use Rattle.planner.proofs.ListLaws.{cleared-sized, cleared-front, cleared-rest}
 use Rattle.planner.proofs.LassoLaws as Laid
 
 -- entries picked in front, zeros behind them
-module _ {A : Type 0} (zero : A) (s : List A) (I : List ℕ) (n : ℕ) (l l' : List A) (room : n ≤ length l) (p : Picked zero s I n l l') where
+module _ {A : Type 0} {zero : A} {s : List A} {I : List ℕ} {n : ℕ} {l l' : List A} (room : n ≤ length l) (p : Picked zero s I n l l') where
   there : n ≤ length l'
   there = omega (arith, p .sized)
 
@@ -39,7 +39,7 @@ sorted-cleared g order nodes h s = record {
   rising = λ i j k m. omega (arith, s .rising i j k m, cleared-front 0 nodes (g .n) h i (omega arith), cleared-front 0 nodes (g .n) h j m);
 }
 
-module _ (F T C order tree cycle : List ℕ) (D : List ℤ) (n k s : ℕ) (p : ℤ) (q : ℕ) (arcs arcs' : List ℕ) (N : List ℕ) (P P' : List ℤ) (S S' : List ℕ)
+module _ {F T C order tree cycle : List ℕ} {D : List ℤ} {n k s : ℕ} {p : ℤ} {q : ℕ} {arcs arcs' : List ℕ} {N : List ℕ} {P P' : List ℤ} {S S' : List ℕ}
     (c : Cyclic F T C order tree cycle n k) (long : LongEnough (lent N P S)) (sized : length arcs' ≡ 4096) (laid : LaidOut F T cycle n k s arcs arcs')
     (permuted : Picked (pos 0) D order n P P') (encoded : Picked 0 C arcs' (s + k) S S') (o : Solved F T C order D cycle n k p q (lent N P S)) where
   abbrev after : Buffers
@@ -55,10 +55,10 @@ module _ (F T C order tree cycle : List ℕ) (D : List ℤ) (n k s : ℕ) (p : �
   turned = slice s (s + k) arcs'
 
   stem-sized : length stem ≡ s
-  stem-sized = Laid.stem-sized F T C order tree cycle n k s arcs arcs' c sized laid
+  stem-sized = Laid.stem-sized c sized laid
 
   turned-sized : length turned ≡ k
-  turned-sized = Laid.turned-sized F T C order tree cycle n k s arcs arcs' c sized laid
+  turned-sized = Laid.turned-sized c sized laid
 
   node-room : n ≤ length N
   node-room = omega (arith, c .formed .few, long .nodes)
@@ -67,7 +67,7 @@ module _ (F T C order tree cycle : List ℕ) (D : List ℤ) (n k s : ℕ) (p : �
   potential-room = omega (arith, c .formed .few, long .potentials)
 
   step-room : s + k ≤ length S
-  step-room = omega (arith, Laid.short F T C order tree cycle n k s arcs arcs' c sized laid, c .formed .few, long .steps)
+  step-room = omega (arith, Laid.short c sized laid, c .formed .few, long .steps)
 
   hand : InHand (o .of-sheet .bytes) (o .of-sheet .before) after g p q D order stem turned
   hand = record {
@@ -77,15 +77,15 @@ module _ (F T C order tree cycle : List ℕ) (D : List ℤ) (n k s : ℕ) (p : �
     earns = o .least .earns;
     potentials = o .least .potentials;
     lowest = o .least .ratio .lowest;
-    exact = Laid.turned-exact F T C order tree cycle n k s arcs arcs' c sized laid g p q (o .least .ratio .exact);
-    lasso = Laid.is-lasso F T C order tree cycle n k s arcs arcs' c sized laid;
+    exact = Laid.turned-exact c sized laid g p q (o .least .ratio .exact);
+    lasso = Laid.is-lasso c sized laid;
     sorted = sorted-cleared g order N node-room (o .of-sheet .sorted);
     nodes-rest = λ i h l. cleared-rest 0 N n node-room i h (omega (arith, cleared-sized 0 N n node-room));
-    permuted = front (pos 0) D order n P P' potential-room permuted;
-    potentials-rest = rest (pos 0) D order n P P' potential-room permuted;
+    permuted = front potential-room permuted;
+    potentials-rest = rest potential-room permuted;
     codes = λ i h. (let l : i < s + k = omega (arith, stem-sized, turned-sized) in
-        front 0 C arcs' (s + k) S S' step-room encoded i l ∙ ap (at C) (sym (Laid.joined-at F T C order tree cycle n k s arcs arcs' c sized laid i l)));
-    steps-rest = λ i h. rest 0 C arcs' (s + k) S S' step-room encoded i (omega (arith, stem-sized, turned-sized));
+        front step-room encoded i l ∙ ap (at C) (sym (Laid.joined-at c sized laid i l)));
+    steps-rest = λ i h. rest step-room encoded i (omega (arith, stem-sized, turned-sized));
     lengths = record {
       nodes = cleared-sized 0 N n node-room ∙ o .of-sheet .lengths .nodes;
       potentials = sized-potentials ∙ o .of-sheet .lengths .potentials;
@@ -94,16 +94,16 @@ module _ (F T C order tree cycle : List ℕ) (D : List ℤ) (n k s : ℕ) (p : �
   }
     where
       sized-potentials : length (cleared (pos 0) P' n) ≡ length P
-      sized-potentials = written-sized (pos 0) D order n P P' potential-room permuted
+      sized-potentials = written-sized potential-room permuted
 
       sized-steps : length (cleared 0 S' (s + k)) ≡ length S
-      sized-steps = written-sized 0 C arcs' (s + k) S S' step-room encoded
+      sized-steps = written-sized step-room encoded
 
   answered : Planned (o .of-sheet .bytes) (o .of-sheet .before) after (record { refusal = 0; p = p; q = q; n = n; s = s; m = k })
   answered = subst (Planned (o .of-sheet .bytes) (o .of-sheet .before) after)
       (ap₂ (λ (i j : ℕ). record { refusal = 0; p = p; q = q; n = n; s = i; m = j }) stem-sized turned-sized)
       (accepted (o .of-sheet .bytes) (o .of-sheet .before) after g p q D order stem turned hand)
 
-  pub accepted-planned : (N' : List ℕ) (P'' : List ℤ) (S'' : List ℕ) (a : Answer) → N' ≡ cleared 0 N n → P'' ≡ cleared (pos 0) P' n → S'' ≡ cleared 0 S' (s + k)
+  pub accepted-planned : {N' : List ℕ} {P'' : List ℤ} {S'' : List ℕ} {a : Answer} → N' ≡ cleared 0 N n → P'' ≡ cleared (pos 0) P' n → S'' ≡ cleared 0 S' (s + k)
       → a ≡ record { refusal = 0; p = p; q = q; n = n; s = s; m = k } → Planned (o .of-sheet .bytes) (o .of-sheet .before) (lent N' P'' S'') a
-  accepted-planned N' P'' S'' a en ep es e = rw (en, ep, es, e) answered
+  accepted-planned en ep es e = rw (en, ep, es, e) answered

@@ -22,13 +22,13 @@ use Rattle.planner.specs.Lent.{lent}
 use Rattle.planner.specs.Hands.{Handed, Cyclic}
 
 -- a refusal that clears the buffers
-pub refused-planned : (bytes : List ℕ) (before : Buffers) (N : List ℕ) (P : List ℤ) (S N' : List ℕ) (P' : List ℤ) (S' : List ℕ) (r : ℕ) (a : Answer)
+pub refused-planned : {bytes : List ℕ} {before : Buffers} {N : List ℕ} {P : List ℤ} {S N' : List ℕ} {P' : List ℤ} {S' : List ℕ} {r : ℕ} {a : Answer}
     → SameLengths (lent N P S) before → N' ≡ replicate (length N) 0 → P' ≡ replicate (length P) (pos 0) → S' ≡ replicate (length S) 0 → a ≡ refused r
     → Planned bytes before (zeros before) (refused r) → Planned bytes before (lent N' P' S') a
-refused-planned bytes before N P S N' P' S' r a l en ep es ea h =
+refused-planned l en ep es ea h =
     rw (en ∙ ap (λ (n : ℕ). replicate n 0) (l .nodes), ep ∙ ap (λ (n : ℕ). replicate n (pos 0)) (l .potentials), es ∙ ap (λ (n : ℕ). replicate n 0) (l .steps), ea) h
 
-module _ (F T C : List ℕ) (Z : List ℤ) (R order tree : List ℕ) (n : ℕ) (h : Handed F T C Z R order tree n) (D : List ℤ) (cycle : List ℕ) (W : Verdict)
+module _ {F T C : List ℕ} {Z : List ℤ} {R order tree : List ℕ} {n : ℕ} (h : Handed F T C Z R order tree n) (D : List ℤ) (cycle : List ℕ) (W : Verdict)
     (z : Judged F T Z R n (replicate 2048 (pos 0)) D (replicate 2048 0) cycle W) where
   abbrev Is : Verdict → Type 0
   Is = Judged F T Z R n (replicate 2048 (pos 0)) D (replicate 2048 0) cycle

@@ -1,5 +1,5 @@
 -- The arcs that `lasso_of` laid out: a lasso, no longer than there are nodes, of arcs of the graph.
-use mathlib.Core.Path.{_≡_, sym, ap, ap₂, _∙_, subst}
+use mathlib.Core.Path.{_≡_, sym, ap, _∙_, subst}
 use mathlib.Core.List.{List, _++_}
 use Prim.Native.Nat.{ℕ, _+_, _-_, _≤_, _<_}
 use native.Mathlib.Omega.{arith}
@@ -19,7 +19,7 @@ use Rattle.contract.specs.Explored.{Found}
 use Rattle.contract.proofs.Graphs.{exact-turned}
 use Rattle.planner.specs.Hands.{Cyclic, Pickable}
 
-module _ (F T C order tree cycle : List ℕ) (n k s : ℕ) (arcs arcs' : List ℕ) (c : Cyclic F T C order tree cycle n k)
+module _ {F T C order tree cycle : List ℕ} {n k s : ℕ} {arcs arcs' : List ℕ} (c : Cyclic F T C order tree cycle n k)
     (sized : length arcs' ≡ 4096) (laid : LaidOut F T cycle n k s arcs arcs') where
   abbrev pub stem : List ℕ
   stem = take s arcs'

@@ -1,8 +1,10 @@
 -- Question 1, the check, and then what follows.
-use mathlib.Core.Path.{ap, _∙_}
+use mathlib.Core.Path.{_≡_, ap, _∙_}
 use native.Mathlib.Omega.{arith}
 use denote.Ref.{now}
 use Rattle.sheet.specs.declared.Sheet.{Sheet}
+use Rattle.sheet.specs.Questions.{checkOf}
+use Rattle.contract.specs.Plan.{Buffers}
 use Rattle.contract.proofs.Exits.{short-buffer, faulty-sheet}
 use Rattle.contract.proofs.DecodedSheets.{read-refusal}
 use Rattle.planner.specs.Lent.{lent}
@@ -10,13 +12,24 @@ use borrow.Author.Needs.{needs}
 use Rattle.planner.proofs.plan.Statement.{statement}
 use Rattle.planner.proofs.plan.Tie as tie
 
+-- the start
+abbrev S : tie.After-read → tie.Start
+S c = c .before .before .before .before .before .before .before
+
+-- the buffers lent to this function
+abbrev before : tie.Start → Buffers
+before s = lent (now (s .args .nodes)) (now (s .args .potentials)) (now (s .args .steps))
+
+refusal : (c : tie.After-read) → c .read .result .refusal ≡ checkOf (now (S c .args .sheet))
+refusal c = ap (λ (x : Sheet). x .refusal) (c .read .ensures) ∙ read-refusal (now (S c .args .sheet))
+
 refused-requires : tie.Need-refused-requires
 refused-requires c κs = search needs
 
 returns : tie.Need-returns
 returns c =
     let s = c .before .before .before .before .before in
-    rw (c .refused .ensures) (short-buffer (now (s .args .sheet)) (lent (now (s .args .nodes)) (now (s .args .potentials)) (now (s .args .steps))) (λ l. omega (arith, l .nodes)))
+    rw (c .refused .ensures) (short-buffer (now (s .args .sheet)) (before s) (λ l. omega (arith, l .nodes)))
 
 refused-requires-2 : tie.Need-refused-requires-2
 refused-requires-2 c κs = search needs
@@ -24,7 +37,7 @@ refused-requires-2 c κs = search needs
 returns-2 : tie.Need-returns-2
 returns-2 c =
     let s = c .before .before .before .before .before .before in
-    rw (c .refused2 .ensures) (short-buffer (now (s .args .sheet)) (lent (now (s .args .nodes)) (now (s .args .potentials)) (now (s .args .steps))) (λ l. omega (arith, l .potentials)))
+    rw (c .refused2 .ensures) (short-buffer (now (s .args .sheet)) (before s) (λ l. omega (arith, l .potentials)))
 
 refused-requires-3 : tie.Need-refused-requires-3
 refused-requires-3 c κs = search needs
@@ -32,7 +45,7 @@ refused-requires-3 c κs = search needs
 returns-3 : tie.Need-returns-3
 returns-3 c =
     let s = c .before .before .before .before .before .before .before in
-    rw (c .refused3 .ensures) (short-buffer (now (s .args .sheet)) (lent (now (s .args .nodes)) (now (s .args .potentials)) (now (s .args .steps))) (λ l. omega (arith, l .steps)))
+    rw (c .refused3 .ensures) (short-buffer (now (s .args .sheet)) (before s) (λ l. omega (arith, l .steps)))
 
 read-requires : tie.Need-read-requires
 read-requires c κs = search needs
@@ -42,15 +55,15 @@ refused-requires-4 c κs = search needs
 
 returns-4 : tie.Need-returns-4
 returns-4 c =
-    let s = c .before .before .before .before .before .before .before .before .before in
-    let e = ap (λ (x : Sheet). x .refusal) (c .before .before .read .ensures) ∙ read-refusal (now (s .args .sheet)) in
-    rw (c .refused4 .ensures, e) (faulty-sheet (now (s .args .sheet)) (lent (now (s .args .nodes)) (now (s .args .potentials)) (now (s .args .steps))) (record { nodes = omega arith; potentials = omega arith; steps = omega arith }) (λ z. omega (arith, e)))
+    let r = c .before .before in
+    let s = S r in
+    rw (c .refused4 .ensures, refusal r)
+    (faulty-sheet (now (s .args .sheet)) (before s) (record { nodes = omega arith; potentials = omega arith; steps = omega arith }) (λ z. omega (arith, refusal r)))
 
 plan-read-requires : tie.Need-plan-read-requires
 plan-read-requires c κs =
-    let s = c .before .before .before .before .before .before .before .before .before .before .before in
-    let e = ap (λ (x : Sheet). x .refusal) (c .before .before .before .before .read .ensures) ∙ read-refusal (now (s .args .sheet)) in
-    (record { bytes = now (s .args .sheet); checked = omega (arith, e); is = c .before .before .before .before .read .ensures }, record { nodes = omega arith; potentials = omega arith; steps = omega arith })
+    let r = c .before .before .before .before in
+    (record { bytes = now (S r .args .sheet); checked = omega (arith, refusal r); is = r .read .ensures }, record { nodes = omega arith; potentials = omega arith; steps = omega arith })
 
 same-length : tie.Need-same-length
 same-length c = search needs
@@ -63,9 +76,9 @@ same-length-3 c = search needs
 
 returns-5 : tie.Need-returns-5
 returns-5 c =
-    let s = c .before .before .before .before .before .before .before .before .before .before .before .before .before .before .before .before .before in
-    let e = ap (λ (x : Sheet). x .refusal) (c .before .before .before .before .before .before .before .before .before .before .read .ensures) ∙ read-refusal (now (s .args .sheet)) in
-    c .before .before .before .before .before .plan-read .ensures (record { bytes = now (s .args .sheet); checked = omega (arith, e); is = c .before .before .before .before .before .before .before .before .before .before .read .ensures })
+    let p = c .before .before .before .before .before in
+    let r = p .before .before .before .before .before in
+    p .plan-read .ensures (record { bytes = now (S r .args .sheet); checked = omega (arith, refusal r); is = r .read .ensures })
 
 pub plan-spec : {M : Type 1} → statement M
 plan-spec =

@@ -1,15 +1,60 @@
 -- The lasso is laid out, and the three buffers are written.
-use mathlib.Core.Path.{ap}
+use mathlib.Core.Path.{_≡_, ap}
+use mathlib.Core.List.{List}
+use Prim.Native.Nat.{ℕ, _+_, _≤_}
 use native.Mathlib.Omega.{arith}
 use denote.Ref.{now}
 use lib.IntN.{ℤ}
+use lib.ListN.{length, replicate}
 use mir.Syntax.{w64}
 use mir.ValLaws.{toZ-ofZ}
+use Rattle.lasso.specs.Answer.{LaidOut}
 use Rattle.planner.proofs.AcceptLaws.{accepted-planned}
 use Rattle.planner.proofs.LassoLaws.{short, codes-pickable, never, laid-of}
 use borrow.Author.Needs.{needs}
 use Rattle.planner.proofs.graphs.accept.Statement.{statement}
 use Rattle.planner.proofs.graphs.accept.Tie as tie
+
+-- ---- the places, from the end to the start
+
+-- after the steps are written
+abbrev E : tie.After-slice-known5 → tie.After-encode
+E c = c .before .before .before .before .before .before
+
+-- after the potentials are
+abbrev P : tie.After-encode-arg → tie.After-permute
+P c = c .before .before .before .before .before .before
+
+-- where the stem's length is known
+abbrev K : tie.After-permute → tie.After-laid
+K c = c .before .before .before .before .before .before .before
+
+abbrev L : tie.After-laid → tie.After-lasso-of
+L c = c .before .before .before
+
+abbrev S : tie.After-lasso-of → tie.Start
+S c = c .before .before .before .before .before .before .before .before .before .before
+
+-- ---- the lasso
+
+-- the arcs as `lasso_of` leaves them
+abbrev arcs : tie.After-lasso-of → List ℕ
+arcs c = c .lasso-of .last .1 .1 .1 .1 .1 .1 .0
+
+sized : (c : tie.After-lasso-of) → length (arcs c) ≡ 4096
+sized c = c .lasso-of .kept .1 .1 .1 .1 .1 .1 .0
+
+laid : (v : tie.After-laid)
+    → LaidOut (now (S (L v) .args .from)) (now (S (L v) .args .to)) (now (S (L v) .args .cycle)) (S (L v) .args .n) (S (L v) .args .k) (v .laid .given .0 .0) (replicate 4096 0) (arcs (L v))
+laid v =
+    let s = S (L v) in
+    laid-of (now (s .args .from)) (now (s .args .to)) (now (s .args .tree)) (now (s .args .cycle)) (s .args .n) (s .args .k)
+    (arcs (L v)) (L v .lasso-of .result) (L v .lasso-of .ensures) (v .laid .given .0 .0) (v .laid .given .1)
+
+few : (v : tie.After-laid) → v .laid .given .0 .0 + S (L v) .args .k ≤ 2048
+few v =
+    let s = S (L v) in
+    omega (arith, short (s .pre .0) (sized (L v)) (laid v), s .pre .0 .formed .few)
 
 slice-aggregate-lasso-of : tie.Need-slice-aggregate-lasso-of
 slice-aggregate-lasso-of c = search needs
@@ -28,83 +73,55 @@ refused-requires c κs = search needs
 
 returns : tie.Need-returns
 returns c =
-    let s = c .before .before .before .before .before .before .before .before .before .before .before .before .before .before in
-    let l = c .before .before .before .before .lasso-of in
-    let arcs = l .last .1 .1 .1 .1 .1 .1 .0 in
-    absurd (never (now (s .args .from)) (now (s .args .to)) (now (s .args .tree)) (now (s .args .cycle)) (s .args .n) (s .args .k) arcs (l .result) (l .ensures) (c .before .enum-told .given .1) (s .pre .0 .formed))
+    let l = c .before .before .before .before in
+    let s = S l in
+    absurd (never (now (s .args .from)) (now (s .args .to)) (now (s .args .tree)) (now (s .args .cycle)) (s .args .n) (s .args .k)
+    (arcs l) (l .lasso-of .result) (l .lasso-of .ensures) (c .before .enum-told .given .1) (s .pre .0 .formed))
 
 add-all : tie.Need-add-all
-add-all c =
-    let s = c .before .before .before .before .before .before .before .before .before .before .before .before .before .before in
-    let l = c .before .before .before .before .lasso-of in
-    let arcs = l .last .1 .1 .1 .1 .1 .1 .0 in
-    let d = laid-of (now (s .args .from)) (now (s .args .to)) (now (s .args .tree)) (now (s .args .cycle)) (s .args .n) (s .args .k) arcs (l .result) (l .ensures) (c .before .laid .given .0 .0) (c .before .laid .given .1) in
-    omega (arith, short (now (s .args .from)) (now (s .args .to)) (now (s .args .code)) (now (s .args .order)) (now (s .args .tree)) (now (s .args .cycle)) (s .args .n) (s .args .k) (c .before .laid .given .0 .0) _ arcs (s .pre .0) (l .kept .1 .1 .1 .1 .1 .1 .0) d, s .pre .0 .formed .few, s .pre .1 .1 .0)
+add-all c = omega (arith, few (c .before))
 
 clear-nodes-requires : tie.Need-clear-nodes-requires
 clear-nodes-requires c κs = search needs
 
 permute-requires : tie.Need-permute-requires
 permute-requires c κs =
-    let s = c .before .before .before .before .before .before .before .before .before .before .before .before .before .before .before .before .before .before .before in
+    let s = S (L (c .before .before .before .before .before .before)) in
     let y = s .pre .0 in
     record { named = y .ordered; there = λ i h. omega (arith, y .order-below i h, s .pre .1 .0); room = omega (arith, y .formed .few, s .pre .1 .1 .1 .potentials) }
 
 clear-potentials-requires : tie.Need-clear-potentials-requires
 clear-potentials-requires c κs =
-    let s = c .before .before .before .before .before .before .before .before .before .before .before .before .before .before .before .before .before .before .before .before .before .before in
-    omega (arith, s .pre .0 .formed .few, s .pre .1 .1 .1 .potentials, c .before .before .permute .ensures .sized)
+    let p = c .before .before in
+    let s = S (L (K p)) in
+    omega (arith, s .pre .0 .formed .few, s .pre .1 .1 .1 .potentials, p .permute .ensures .sized)
 
 slice-aggregate-encode : tie.Need-slice-aggregate-encode
 slice-aggregate-encode c = search needs
 
 encode-requires : tie.Need-encode-requires
 encode-requires c κs =
-    let s = c .before .before .before .before .before .before .before .before .before .before .before .before .before .before .before .before .before .before .before .before .before .before .before .before .before .before in
-    let l = c .before .before .before .before .before .before .before .before .before .before .before .before .before .before .before .before .lasso-of in
-    let arcs = l .last .1 .1 .1 .1 .1 .1 .0 in
-    let d = laid-of (now (s .args .from)) (now (s .args .to)) (now (s .args .tree)) (now (s .args .cycle)) (s .args .n) (s .args .k) arcs (l .result) (l .ensures) (c .before .before .before .before .before .before .before .before .before .before .before .before .before .laid .given .0 .0) (c .before .before .before .before .before .before .before .before .before .before .before .before .before .laid .given .1) in
-    codes-pickable (now (s .args .from)) (now (s .args .to)) (now (s .args .code)) (now (s .args .order)) (now (s .args .tree)) (now (s .args .cycle)) (s .args .n) (s .args .k) (c .before .before .before .before .before .before .before .before .before .before .before .before .before .laid .given .0 .0) _ arcs (s .pre .0) (l .kept .1 .1 .1 .1 .1 .1 .0) d (now (s .args .steps)) (s .pre .1 .1 .1 .steps)
+    let v = K (P c) in
+    let s = S (L v) in
+    codes-pickable (s .pre .0) (sized (L v)) (laid v) (now (s .args .steps)) (s .pre .1 .1 .1 .steps)
 
 clear-steps-requires : tie.Need-clear-steps-requires
 clear-steps-requires c κs =
-    let s = c .before .before .before .before .before .before .before .before .before .before .before .before .before .before .before .before .before .before .before .before .before .before .before .before .before .before .before .before .before .before in
-    let l = c .before .before .before .before .before .before .before .before .before .before .before .before .before .before .before .before .before .before .before .before .lasso-of in
-    let arcs = l .last .1 .1 .1 .1 .1 .1 .0 in
-    let d = laid-of (now (s .args .from)) (now (s .args .to)) (now (s .args .tree)) (now (s .args .cycle)) (s .args .n) (s .args .k) arcs (l .result) (l .ensures) (c .before .before .before .before .before .before .before .before .before .before .before .before .before .before .before .before .before .laid .given .0 .0) (c .before .before .before .before .before .before .before .before .before .before .before .before .before .before .before .before .before .laid .given .1) in
-    omega (arith, short (now (s .args .from)) (now (s .args .to)) (now (s .args .code)) (now (s .args .order)) (now (s .args .tree)) (now (s .args .cycle)) (s .args .n) (s .args .k) (c .before .before .before .before .before .before .before .before .before .before .before .before .before .before .before .before .before .laid .given .0 .0) _ arcs (s .pre .0) (l .kept .1 .1 .1 .1 .1 .1 .0) d, s .pre .0 .formed .few, s .pre .1 .1 .1 .steps, c .before .before .before .encode .ensures .sized)
+    let e = c .before .before .before in
+    let v = K (P (e .before)) in
+    omega (arith, few v, S (L v) .pre .1 .1 .1 .steps, e .encode .ensures .sized)
 
 cast-t34 : tie.Need-cast-t34
-cast-t34 c =
-    let s = c .before .before .before .before .before .before .before .before .before .before .before .before .before .before .before .before .before .before .before .before .before .before .before .before .before .before .before .before .before .before .before .before .before in
-    let l = c .before .before .before .before .before .before .before .before .before .before .before .before .before .before .before .before .before .before .before .before .before .before .before .lasso-of in
-    let arcs = l .last .1 .1 .1 .1 .1 .1 .0 in
-    let d = laid-of (now (s .args .from)) (now (s .args .to)) (now (s .args .tree)) (now (s .args .cycle)) (s .args .n) (s .args .k) arcs (l .result) (l .ensures) (c .before .before .before .before .before .before .before .before .before .before .before .before .before .before .before .before .before .before .before .before .laid .given .0 .0) (c .before .before .before .before .before .before .before .before .before .before .before .before .before .before .before .before .before .before .before .before .laid .given .1) in
-    omega (arith, short (now (s .args .from)) (now (s .args .to)) (now (s .args .code)) (now (s .args .order)) (now (s .args .tree)) (now (s .args .cycle)) (s .args .n) (s .args .k) (c .before .before .before .before .before .before .before .before .before .before .before .before .before .before .before .before .before .before .before .before .laid .given .0 .0) _ arcs (s .pre .0) (l .kept .1 .1 .1 .1 .1 .1 .0) d, s .pre .0 .formed .few, s .pre .1 .1 .0)
+cast-t34 c = omega (arith, S (L (K (P (E c .before)))) .pre .1 .1 .0)
 
 cast-t35 : tie.Need-cast-t35
-cast-t35 c =
-    let s = c .before .before .before .before .before .before .before .before .before .before .before .before .before .before .before .before .before .before .before .before .before .before .before .before .before .before .before .before .before .before .before .before .before in
-    let l = c .before .before .before .before .before .before .before .before .before .before .before .before .before .before .before .before .before .before .before .before .before .before .before .lasso-of in
-    let arcs = l .last .1 .1 .1 .1 .1 .1 .0 in
-    let d = laid-of (now (s .args .from)) (now (s .args .to)) (now (s .args .tree)) (now (s .args .cycle)) (s .args .n) (s .args .k) arcs (l .result) (l .ensures) (c .before .before .before .before .before .before .before .before .before .before .before .before .before .before .before .before .before .before .before .before .laid .given .0 .0) (c .before .before .before .before .before .before .before .before .before .before .before .before .before .before .before .before .before .before .before .before .laid .given .1) in
-    omega (arith, short (now (s .args .from)) (now (s .args .to)) (now (s .args .code)) (now (s .args .order)) (now (s .args .tree)) (now (s .args .cycle)) (s .args .n) (s .args .k) (c .before .before .before .before .before .before .before .before .before .before .before .before .before .before .before .before .before .before .before .before .laid .given .0 .0) _ arcs (s .pre .0) (l .kept .1 .1 .1 .1 .1 .1 .0) d, s .pre .0 .formed .few, s .pre .1 .1 .0)
+cast-t35 c = omega (arith, S (L (K (P (E c .before)))) .pre .0 .formed .few)
 
 cast-t36 : tie.Need-cast-t36
-cast-t36 c =
-    let s = c .before .before .before .before .before .before .before .before .before .before .before .before .before .before .before .before .before .before .before .before .before .before .before .before .before .before .before .before .before .before .before .before .before in
-    let l = c .before .before .before .before .before .before .before .before .before .before .before .before .before .before .before .before .before .before .before .before .before .before .before .lasso-of in
-    let arcs = l .last .1 .1 .1 .1 .1 .1 .0 in
-    let d = laid-of (now (s .args .from)) (now (s .args .to)) (now (s .args .tree)) (now (s .args .cycle)) (s .args .n) (s .args .k) arcs (l .result) (l .ensures) (c .before .before .before .before .before .before .before .before .before .before .before .before .before .before .before .before .before .before .before .before .laid .given .0 .0) (c .before .before .before .before .before .before .before .before .before .before .before .before .before .before .before .before .before .before .before .before .laid .given .1) in
-    omega (arith, short (now (s .args .from)) (now (s .args .to)) (now (s .args .code)) (now (s .args .order)) (now (s .args .tree)) (now (s .args .cycle)) (s .args .n) (s .args .k) (c .before .before .before .before .before .before .before .before .before .before .before .before .before .before .before .before .before .before .before .before .laid .given .0 .0) _ arcs (s .pre .0) (l .kept .1 .1 .1 .1 .1 .1 .0) d, s .pre .0 .formed .few, s .pre .1 .1 .0)
+cast-t36 c = omega (arith, few (K (P (E c .before))))
 
 cast-t37 : tie.Need-cast-t37
-cast-t37 c =
-    let s = c .before .before .before .before .before .before .before .before .before .before .before .before .before .before .before .before .before .before .before .before .before .before .before .before .before .before .before .before .before .before .before .before .before in
-    let l = c .before .before .before .before .before .before .before .before .before .before .before .before .before .before .before .before .before .before .before .before .before .before .before .lasso-of in
-    let arcs = l .last .1 .1 .1 .1 .1 .1 .0 in
-    let d = laid-of (now (s .args .from)) (now (s .args .to)) (now (s .args .tree)) (now (s .args .cycle)) (s .args .n) (s .args .k) arcs (l .result) (l .ensures) (c .before .before .before .before .before .before .before .before .before .before .before .before .before .before .before .before .before .before .before .before .laid .given .0 .0) (c .before .before .before .before .before .before .before .before .before .before .before .before .before .before .before .before .before .before .before .before .laid .given .1) in
-    omega (arith, short (now (s .args .from)) (now (s .args .to)) (now (s .args .code)) (now (s .args .order)) (now (s .args .tree)) (now (s .args .cycle)) (s .args .n) (s .args .k) (c .before .before .before .before .before .before .before .before .before .before .before .before .before .before .before .before .before .before .before .before .laid .given .0 .0) _ arcs (s .pre .0) (l .kept .1 .1 .1 .1 .1 .1 .0) d, s .pre .0 .formed .few, s .pre .1 .1 .0)
+cast-t37 c = omega (arith, few (K (P (E c .before))))
 
 same-length : tie.Need-same-length
 same-length c = search needs
@@ -117,14 +134,13 @@ same-length-3 c = search needs
 
 returns-2 : tie.Need-returns-2
 returns-2 c =
-    let s = c .before .before .before .before .before .before .before .before .before .before .before .before .before .before .before .before .before .before .before .before .before .before .before .before .before .before .before .before .before .before .before .before .before in
-    let l = c .before .before .before .before .before .before .before .before .before .before .before .before .before .before .before .before .before .before .before .before .before .before .before .lasso-of in
-    let arcs = l .last .1 .1 .1 .1 .1 .1 .0 in
-    let d = laid-of (now (s .args .from)) (now (s .args .to)) (now (s .args .tree)) (now (s .args .cycle)) (s .args .n) (s .args .k) arcs (l .result) (l .ensures) (c .before .before .before .before .before .before .before .before .before .before .before .before .before .before .before .before .before .before .before .before .laid .given .0 .0) (c .before .before .before .before .before .before .before .before .before .before .before .before .before .before .before .before .before .before .before .before .laid .given .1) in
-    λ o. accepted-planned (now (s .args .from)) (now (s .args .to)) (now (s .args .code)) (now (s .args .order)) (now (s .args .tree)) (now (s .args .cycle))
-    (now (s .args .least)) (s .args .n) (s .args .k) (c .before .before .before .before .before .before .before .before .before .before .before .before .before .before .before .before .before .before .before .before .laid .given .0 .0) _ (s .args .q) _ arcs (now (s .args .nodes)) (now (s .args .potentials)) (c .before .before .before .before .before .before .before .before .before .before .before .before .before .permute .last .1 .1 .1 .0) (now (s .args .steps)) (c .before .before .before .before .before .before .encode .last .1 .1 .1 .0)
-    (s .pre .0) (s .pre .1 .1 .1) (l .kept .1 .1 .1 .1 .1 .1 .0) d (c .before .before .before .before .before .before .before .before .before .before .before .before .before .permute .ensures) (c .before .before .before .before .before .before .encode .ensures) o _ _ _ _ (c .before .before .before .before .before .before .before .before .before .before .before .before .before .before .before .before .before .clear-nodes .ensures) (c .before .before .before .before .before .before .before .before .before .before .clear-potentials .ensures) (c .before .before .clear-steps .ensures)
-    (ap (λ (z : ℤ). record { refusal = 0; p = z; q = s .args .q; n = s .args .n; s = c .before .before .before .before .before .before .before .before .before .before .before .before .before .before .before .before .before .before .before .before .laid .given .0 .0; m = s .args .k }) (toZ-ofZ w64 (s .args .p) (s .fits .p)))
+    let e = E c in
+    let p = P (e .before) in
+    let v = K p in
+    let s = S (L v) in
+    λ o. accepted-planned (s .pre .0) (s .pre .1 .1 .1) (sized (L v)) (laid v) (p .permute .ensures) (e .encode .ensures) o
+    (p .before .before .before .before .clear-nodes .ensures) (e .before .before .before .before .clear-potentials .ensures) (c .before .before .clear-steps .ensures)
+    (ap (λ (z : ℤ). record { refusal = 0; p = z; q = s .args .q; n = s .args .n; s = v .laid .given .0 .0; m = s .args .k }) (toZ-ofZ w64 (s .args .p) (s .fits .p)))
 
 pub accept-spec : {M : Type 1} → statement M
 accept-spec =

@@ -1,11 +1,33 @@
 -- Questions 13 and 14 by what `least_ratio` answers, and then the lasso.
+use mathlib.Core.List.{List}
+use Prim.Native.Nat.{ℕ}
 use native.Mathlib.Omega.{arith}
 use denote.Ref.{now}
+use lib.IntN.{ℤ}
 use Rattle.contract.proofs.Exits.{no-cycle-reachable, cycle-earns-nothing}
 use Rattle.planner.proofs.GraphLaws.{refused-planned, never, acyclic, idle, least, least-again, cyclic}
 use borrow.Author.Needs.{needs}
 use Rattle.planner.proofs.graphs.plan_graph.Statement.{statement}
 use Rattle.planner.proofs.graphs.plan_graph.Tie as tie
+
+-- ---- the places, from the end to the start
+
+-- where the verdict's numbers are known
+abbrev K : tie.After-accept-arg3 → tie.After-verdict
+K c = c .before .before .before .before .before .before
+
+abbrev L : tie.After-verdict → tie.After-least-ratio
+L c = c .before .before .before .before
+
+abbrev S : tie.After-least-ratio → tie.Start
+S c = c .before .before .before .before .before .before .before .before .before .before .before
+
+-- the potentials and the cycle as `least_ratio` leaves them
+abbrev D : tie.After-least-ratio → List ℤ
+D c = c .least-ratio .last .1 .1 .1 .1 .1 .0
+
+abbrev cycle : tie.After-least-ratio → List ℕ
+cycle c = c .least-ratio .last .1 .1 .1 .1 .1 .1 .0
 
 slice-aggregate-least-ratio : tie.Need-slice-aggregate-least-ratio
 slice-aggregate-least-ratio c = search needs
@@ -39,11 +61,13 @@ slice-aggregate-accept-2 c = search needs
 
 accept-requires : tie.Need-accept-requires
 accept-requires c κs =
-    let s = c .before .before .before .before .before .before .before .before .before .before .before .before .before .before .before .before .before .before .before .before .before in
-    let r = c .before .before .before .before .before .before .before .before .before .before .least-ratio in
-    let v = c .before .before .before .before .before .before .verdict in
-    let f = least (now (s .args .from)) (now (s .args .to)) (now (s .args .code)) (now (s .args .cost)) (now (s .args .reward)) (now (s .args .order)) (now (s .args .tree)) (s .args .n) (s .pre .0) (r .last .1 .1 .1 .1 .1 .0) (r .last .1 .1 .1 .1 .1 .1 .0) (r .result) (r .ensures) (v .given .0 .0) (v .given .0 .1 .0) (v .given .0 .1 .1 .0) (v .given .1) in
-    (cyclic (now (s .args .from)) (now (s .args .to)) (now (s .args .code)) (now (s .args .cost)) (now (s .args .reward)) (now (s .args .order)) (now (s .args .tree)) (s .args .n) (s .pre .0) (r .last .1 .1 .1 .1 .1 .0) (r .last .1 .1 .1 .1 .1 .1 .0) (r .result) (r .ensures) (v .given .0 .0) (v .given .0 .1 .0) (v .given .0 .1 .1 .0) (v .given .1) (r .kept .1 .1 .1 .1 .1 .1 .0), (omega (arith, s .pre .0 .graph .nodes, r .kept .1 .1 .1 .1 .1 .0), (f .q-small, s .pre .1)))
+    let v = K c in
+    let g = v .verdict .given in
+    let l = L v in
+    let h = S l .pre .0 in
+    let f = least h (D l) (cycle l) (l .least-ratio .result) (l .least-ratio .ensures) (g .0 .0) (g .0 .1 .0) (g .0 .1 .1 .0) (g .1) in
+    let r = cyclic h (D l) (cycle l) (l .least-ratio .result) (l .least-ratio .ensures) (g .0 .0) (g .0 .1 .0) (g .0 .1 .1 .0) (g .1) (l .least-ratio .kept .1 .1 .1 .1 .1 .1 .0) in
+    (r, (omega (arith, h .graph .nodes, l .least-ratio .kept .1 .1 .1 .1 .1 .0), (f .q-small, S l .pre .1)))
 
 enum-told-3 : tie.Need-enum-told-3
 enum-told-3 c = search needs
@@ -62,10 +86,13 @@ same-length-3 c = search needs
 
 returns : tie.Need-returns
 returns c =
-    let s = c .before .before .before .before .before .before .before .before .before .before .before .before .before .before .before .before .before .before .before .before .before .before .before .before in
-    let r = c .before .before .before .before .before .before .before .before .before .before .before .before .before .least-ratio in
-    λ o. refused-planned (o .bytes) (o .before) (now (s .args .nodes)) (now (s .args .potentials)) (now (s .args .steps)) _ _ _ 13 _ (o .lengths) (c .before .before .before .before .before .refuse .ensures .1 .0) (c .before .before .before .before .before .refuse .ensures .1 .1 .0) (c .before .before .before .before .before .refuse .ensures .1 .1 .1) (c .before .before .before .before .before .refuse .ensures .0)
-    (no-cycle-reachable (o .bytes) (o .before) (o .long) (o .checked) _ (o .explored) (acyclic (now (s .args .from)) (now (s .args .to)) (now (s .args .code)) (now (s .args .cost)) (now (s .args .reward)) (now (s .args .order)) (now (s .args .tree)) (s .args .n) (s .pre .0) (r .last .1 .1 .1 .1 .1 .0) (r .last .1 .1 .1 .1 .1 .1 .0) (r .result) (r .ensures) (c .before .before .before .before .before .before .before .before .before .enum-told .given .1)))
+    let f = c .before .before .before .before .before in
+    let w = f .refuse .ensures in
+    let e = f .before .before .before .before in
+    let l = e .before .before .before .before in
+    λ o. refused-planned (o .lengths) (w .1 .0) (w .1 .1 .0) (w .1 .1 .1) (w .0)
+    (no-cycle-reachable (o .bytes) (o .before) (o .long) (o .checked) _ (o .explored)
+    (acyclic (S l .pre .0) (D l) (cycle l) (l .least-ratio .result) (l .least-ratio .ensures) (e .enum-told .given .1)))
 
 same-length-4 : tie.Need-same-length-4
 same-length-4 c = search needs
@@ -78,10 +105,13 @@ same-length-6 c = search needs
 
 returns-2 : tie.Need-returns-2
 returns-2 c =
-    let s = c .before .before .before .before .before .before .before .before .before .before .before .before .before .before .before .before .before .before .before .before .before .before .before .before in
-    let r = c .before .before .before .before .before .before .before .before .before .before .before .before .before .least-ratio in
-    λ o. refused-planned (o .bytes) (o .before) (now (s .args .nodes)) (now (s .args .potentials)) (now (s .args .steps)) _ _ _ 14 _ (o .lengths) (c .before .before .before .before .before .refuse2 .ensures .1 .0) (c .before .before .before .before .before .refuse2 .ensures .1 .1 .0) (c .before .before .before .before .before .refuse2 .ensures .1 .1 .1) (c .before .before .before .before .before .refuse2 .ensures .0)
-    (cycle-earns-nothing (o .bytes) (o .before) (o .long) (o .checked) _ (o .explored) (idle (now (s .args .from)) (now (s .args .to)) (now (s .args .code)) (now (s .args .cost)) (now (s .args .reward)) (now (s .args .order)) (now (s .args .tree)) (s .args .n) (s .pre .0) (r .last .1 .1 .1 .1 .1 .0) (r .last .1 .1 .1 .1 .1 .1 .0) (r .result) (r .ensures) (c .before .before .before .before .before .before .before .before .before .enum-told2 .given .1)))
+    let f = c .before .before .before .before .before in
+    let w = f .refuse2 .ensures in
+    let e = f .before .before .before .before in
+    let l = e .before .before .before .before in
+    λ o. refused-planned (o .lengths) (w .1 .0) (w .1 .1 .0) (w .1 .1 .1) (w .0)
+    (cycle-earns-nothing (o .bytes) (o .before) (o .long) (o .checked) _ (o .explored)
+    (idle (S l .pre .0) (D l) (cycle l) (l .least-ratio .result) (l .least-ratio .ensures) (e .enum-told2 .given .1)))
 
 same-length-7 : tie.Need-same-length-7
 same-length-7 c = search needs
@@ -94,16 +124,23 @@ same-length-9 c = search needs
 
 returns-3 : tie.Need-returns-3
 returns-3 c =
-    let s = c .before .before .before .before .before .before .before .before .before .before .before .before .before .before .before .before .before .before .before .before .before .before .before .before .before .before .before in
-    let r = c .before .before .before .before .before .before .before .before .before .before .before .before .before .before .before .before .least-ratio in
-    let v = c .before .before .before .before .before .before .before .before .before .before .before .before .verdict in
-    λ o. c .before .before .before .before .before .accept .ensures (record { cost = now (s .args .cost); reward = now (s .args .reward); of-sheet = o; potential = _; arcs = _; least = least-again (now (s .args .from)) (now (s .args .to)) (now (s .args .code)) (now (s .args .cost)) (now (s .args .reward)) (now (s .args .order)) (now (s .args .tree)) (s .args .n) (s .pre .0) (r .last .1 .1 .1 .1 .1 .0) (r .last .1 .1 .1 .1 .1 .1 .0) (r .result) (r .ensures) (v .given .0 .0) (v .given .0 .1 .0) (v .given .0 .1 .1 .0) (v .given .1) })
+    let a = c .before .before .before .before .before in
+    let v = K (a .before) in
+    let g = v .verdict .given in
+    let l = L v in
+    λ o. a .accept .ensures (record {
+      cost = now (S l .args .cost);
+      reward = now (S l .args .reward);
+      of-sheet = o;
+      potential = _;
+      arcs = _;
+      least = least-again (S l .pre .0) (D l) (cycle l) (l .least-ratio .result) (l .least-ratio .ensures) (g .0 .0) (g .0 .1 .0) (g .0 .1 .1 .0) (g .1);
+    })
 
 returns-4 : tie.Need-returns-4
 returns-4 c =
-    let s = c .before .before .before .before .before .before .before .before .before .before .before .before .before .before .before .before in
-    let r = c .before .before .before .before .before .least-ratio in
-    absurd (never (now (s .args .from)) (now (s .args .to)) (now (s .args .code)) (now (s .args .cost)) (now (s .args .reward)) (now (s .args .order)) (now (s .args .tree)) (s .args .n) (s .pre .0) (r .last .1 .1 .1 .1 .1 .0) (r .last .1 .1 .1 .1 .1 .1 .0) (r .result) (r .ensures) (c .before .enum-told3 .given .1))
+    let l = c .before .before .before .before .before in
+    absurd (never (S l .pre .0) (D l) (cycle l) (l .least-ratio .result) (l .least-ratio .ensures) (c .before .enum-told3 .given .1))
 
 pub plan-graph-spec : {M : Type 1} → statement M
 plan-graph-spec =

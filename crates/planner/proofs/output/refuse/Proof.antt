@@ -30,8 +30,16 @@ same-length-3 c = search needs
 
 returns : tie.Need-returns
 returns c =
-    let s = c .before .before .before .before .before .before .before .before .before .before .before .before .before .before in
-    (c .refused .ensures, (c .before .before .before .before .before .before .before .before .before .before .clear-nodes .ensures ∙ cleared-whole 0 (now (s .args .nodes)), (c .before .before .before .before .before .before .clear-potentials .ensures ∙ cleared-whole (pos 0) (now (s .args .potentials)), c .before .before .before .clear-steps .ensures ∙ cleared-whole 0 (now (s .args .steps)))))
+    let k = c .before .before .before in
+    let p = k .before .before .before in
+    let d = p .before .before .before .before in
+    let s = d .before .before .before .before in (
+      c .refused .ensures,
+      (
+        d .clear-nodes .ensures ∙ cleared-whole 0 (now (s .args .nodes)),
+        (p .clear-potentials .ensures ∙ cleared-whole (pos 0) (now (s .args .potentials)), k .clear-steps .ensures ∙ cleared-whole 0 (now (s .args .steps))),
+      ),
+    )
 
 pub refuse-spec : {M : Type 1} → statement M
 refuse-spec =

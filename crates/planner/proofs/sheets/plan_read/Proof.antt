@@ -1,9 +1,12 @@
 -- Question 12, and the plan of the graph, with its lists cut to the arcs.
 use mathlib.Core.Path.{refl, sym, _∙_}
-use Prim.Native.Nat.{_≤_}
+use Prim.Native.Nat.{ℕ, _≤_}
 use native.Mathlib.Omega.{arith}
 use denote.Ref.{now}
+use lib.ListN.{length}
 use lib.Seq.{length-take-le}
+use Rattle.contract.specs.Plan as Contract
+use Rattle.contract.specs.Plan.{SameLengths}
 use Rattle.contract.proofs.Exits.{too-many-nodes}
 use Rattle.contract.proofs.Graphs.{Room}
 use Rattle.explore.specs.Buffers.{Buffers, buffers, found}
@@ -14,25 +17,68 @@ use borrow.Author.Needs.{needs}
 use Rattle.planner.proofs.sheets.plan_read.Statement.{statement}
 use Rattle.planner.proofs.sheets.plan_read.Tie as tie
 
--- the buffers as `explore` leaves them
-abbrev B : tie.After-explore → Buffers
-B c = buffers (c .explore .last .1 .0) (c .explore .last .1 .1 .0) (c .explore .last .1 .1 .1 .0) (c .explore .last .1 .1 .1 .1 .0) (c .explore .last .1 .1 .1 .1 .1 .0) (c .explore .last .1 .1 .1 .1 .1 .1 .0) (c .explore .last .1 .1 .1 .1 .1 .1 .1 .0) (c .explore .last .1 .1 .1 .1 .1 .1 .1 .1 .0) (c .explore .last .1 .1 .1 .1 .1 .1 .1 .1 .1 .0)
+-- ---- the places, from the end to the start
 
--- the start
+-- where the numbers of nodes and arcs are known
+abbrev K : tie.After-plan-graph-arg3 → tie.After-outcome
+K c = c .before .before .before .before .before .before .before .before .before .before .before
+
+abbrev E : tie.After-reward2 → tie.After-explore
+E c = c .before .before .before .before .before .before .before .before .before .before
+
+abbrev X : tie.After-outcome → tie.After-explore
+X v = E (v .before .before)
+
 abbrev S : tie.After-explore → tie.Start
 S c = c .before .before .before .before .before .before .before .before .before .before .before .before
 
-few : (c : tie.After-outcome) → c .outcome .given .0 .1 .0 ≤ 69632
-few c = let x = c .before .before .before .before .before .before .before .before .before .before .before .before in
-    few-arcs (S x .args .read) (now (S x .args .nodes)) (B x) (x .explore .result) (x .explore .ensures) (c .outcome .given .0 .0) (c .outcome .given .0 .1 .0) (c .outcome .given .1) (S x .pre .0)
+-- ---- what `explore` leaves
 
-few-nodes : (c : tie.After-outcome) → c .outcome .given .0 .0 ≤ 2048
-few-nodes c = let x = c .before .before .before .before .before .before .before .before .before .before .before .before in
-    explored (S x .args .read) (now (S x .args .nodes)) (B x) (x .explore .result) (x .explore .ensures) (c .outcome .given .0 .0) (c .outcome .given .0 .1 .0) (c .outcome .given .1) (S x .pre .0) .few
+abbrev B : tie.After-explore → Buffers
+B c =
+    let l = c .explore .last .1 in
+    let arcs = l .1 .1 .1 .1 in
+    buffers (l .0) (l .1 .0) (l .1 .1 .0) (l .1 .1 .1 .0) (arcs .0) (arcs .1 .0) (arcs .1 .1 .0) (arcs .1 .1 .1 .0) (arcs .1 .1 .1 .1 .0)
 
-room : (c : tie.After-outcome) → Room (found (B (c .before .before .before .before .before .before .before .before .before .before .before .before)) (c .outcome .given .0 .0) (c .outcome .given .0 .1 .0))
-room c = let k = c .before .before .before .before .before .before .before .before .before .before .before .before .explore .kept in
-    record { from = omega (arith, few c, k .1 .1 .1 .1 .1 .0); to = omega (arith, few c, k .1 .1 .1 .1 .1 .1 .0); cost = omega (arith, few c, k .1 .1 .1 .1 .1 .1 .1 .1 .0); reward = omega (arith, few c, k .1 .1 .1 .1 .1 .1 .1 .1 .1 .0); few = few c }
+-- the three buffers that were lent to this function, and as they are after `explore`
+abbrev before : tie.After-explore → Contract.Buffers
+before x = lent (now (S x .args .nodes)) (now (S x .args .potentials)) (now (S x .args .steps))
+
+abbrev after : tie.After-explore → Contract.Buffers
+after x = lent (B x .sorted) (now (S x .args .potentials)) (now (S x .args .steps))
+
+same : (x : tie.After-explore) → SameLengths (after x) (before x)
+same x = record { nodes = x .explore .kept .1 .1 .0; potentials = refl; steps = refl }
+
+abbrev n : tie.After-outcome → ℕ
+n v = v .outcome .given .0 .0
+
+abbrev m : tie.After-outcome → ℕ
+m v = v .outcome .given .0 .1 .0
+
+few : (v : tie.After-outcome) → m v ≤ 69632
+few v =
+    let x = X v in
+    few-arcs (S x .args .read) (now (S x .args .nodes)) (B x) (x .explore .result) (x .explore .ensures) (n v) (m v) (v .outcome .given .1) (S x .pre .0)
+
+few-nodes : (v : tie.After-outcome) → n v ≤ 2048
+few-nodes v =
+    let x = X v in
+    explored (S x .args .read) (now (S x .args .nodes)) (B x) (x .explore .result) (x .explore .ensures) (n v) (m v) (v .outcome .given .1) (S x .pre .0) .few
+
+room : (v : tie.After-outcome) → Room (found (B (X v)) (n v) (m v))
+room v =
+    let k = X v .explore .kept .1 .1 .1 .1 .1 in
+    record { from = omega (arith, few v, k .0); to = omega (arith, few v, k .1 .0); cost = omega (arith, few v, k .1 .1 .1 .0); reward = omega (arith, few v, k .1 .1 .1 .1 .0); few = few v }
+
+room-code : (v : tie.After-outcome) → m v ≤ length (B (X v) .code)
+room-code v = omega (arith, few v, X v .explore .kept .1 .1 .1 .1 .1 .1 .1 .0)
+
+room-order : (v : tie.After-outcome) → n v ≤ length (B (X v) .order)
+room-order v = omega (arith, few-nodes v, X v .explore .kept .1 .1 .1 .0)
+
+room-tree : (v : tie.After-outcome) → n v ≤ length (B (X v) .tree)
+room-tree v = omega (arith, few-nodes v, X v .explore .kept .1 .1 .1 .1 .0)
 
 slice-aggregate-explore : tie.Need-slice-aggregate-explore
 slice-aggregate-explore c = search needs
@@ -74,31 +120,41 @@ array-share-prefix-from : tie.Need-array-share-prefix-from
 array-share-prefix-from c = omega (arith, few (c .before))
 
 slice-aggregate-plan-graph : tie.Need-slice-aggregate-plan-graph
-slice-aggregate-plan-graph c = sym (length-take-le _ (c .before .before .before .before .before .before .before .before .before .before .before .before .before .before .explore .last .1 .1 .1 .1 .1 .0) (omega (arith, few (c .before .before), c .before .before .before .before .before .before .before .before .before .before .before .before .before .before .explore .kept .1 .1 .1 .1 .1 .0)))
+slice-aggregate-plan-graph c =
+    let v = c .before .before in
+    sym (length-take-le _ (B (X v) .from) (room v .from))
 
 array-share-prefix-to : tie.Need-array-share-prefix-to
 array-share-prefix-to c = omega (arith, few (c .before .before))
 
 slice-aggregate-plan-graph-2 : tie.Need-slice-aggregate-plan-graph-2
-slice-aggregate-plan-graph-2 c = sym (length-take-le _ (c .before .before .before .before .before .before .before .before .before .before .before .before .before .before .before .explore .last .1 .1 .1 .1 .1 .1 .0) (omega (arith, few (c .before .before .before), c .before .before .before .before .before .before .before .before .before .before .before .before .before .before .before .explore .kept .1 .1 .1 .1 .1 .1 .0)))
+slice-aggregate-plan-graph-2 c =
+    let v = c .before .before .before in
+    sym (length-take-le _ (B (X v) .to) (room v .to))
 
 array-share-prefix-code : tie.Need-array-share-prefix-code
 array-share-prefix-code c = omega (arith, few (c .before .before .before))
 
 slice-aggregate-plan-graph-3 : tie.Need-slice-aggregate-plan-graph-3
-slice-aggregate-plan-graph-3 c = sym (length-take-le _ (c .before .before .before .before .before .before .before .before .before .before .before .before .before .before .before .before .explore .last .1 .1 .1 .1 .1 .1 .1 .0) (omega (arith, few (c .before .before .before .before), c .before .before .before .before .before .before .before .before .before .before .before .before .before .before .before .before .explore .kept .1 .1 .1 .1 .1 .1 .1 .0)))
+slice-aggregate-plan-graph-3 c =
+    let v = c .before .before .before .before in
+    sym (length-take-le _ (B (X v) .code) (room-code v))
 
 array-share-prefix-cost : tie.Need-array-share-prefix-cost
 array-share-prefix-cost c = omega (arith, few (c .before .before .before .before))
 
 slice-aggregate-plan-graph-4 : tie.Need-slice-aggregate-plan-graph-4
-slice-aggregate-plan-graph-4 c = sym (length-take-le _ (c .before .before .before .before .before .before .before .before .before .before .before .before .before .before .before .before .before .explore .last .1 .1 .1 .1 .1 .1 .1 .1 .0) (omega (arith, few (c .before .before .before .before .before), c .before .before .before .before .before .before .before .before .before .before .before .before .before .before .before .before .before .explore .kept .1 .1 .1 .1 .1 .1 .1 .1 .0)))
+slice-aggregate-plan-graph-4 c =
+    let v = c .before .before .before .before .before in
+    sym (length-take-le _ (B (X v) .cost) (room v .cost))
 
 array-share-prefix-reward : tie.Need-array-share-prefix-reward
 array-share-prefix-reward c = omega (arith, few (c .before .before .before .before .before))
 
 slice-aggregate-plan-graph-5 : tie.Need-slice-aggregate-plan-graph-5
-slice-aggregate-plan-graph-5 c = sym (length-take-le _ (c .before .before .before .before .before .before .before .before .before .before .before .before .before .before .before .before .before .before .explore .last .1 .1 .1 .1 .1 .1 .1 .1 .1 .0) (omega (arith, few (c .before .before .before .before .before .before), c .before .before .before .before .before .before .before .before .before .before .before .before .before .before .before .before .before .before .explore .kept .1 .1 .1 .1 .1 .1 .1 .1 .1 .0)))
+slice-aggregate-plan-graph-5 c =
+    let v = c .before .before .before .before .before .before in
+    sym (length-take-le _ (B (X v) .reward) (room v .reward))
 
 slice-aggregate-plan-graph-6 : tie.Need-slice-aggregate-plan-graph-6
 slice-aggregate-plan-graph-6 c = search needs
@@ -108,9 +164,12 @@ slice-aggregate-plan-graph-7 c = search needs
 
 plan-graph-requires : tie.Need-plan-graph-requires
 plan-graph-requires c κs =
-    let x = c .before .before .before .before .before .before .before .before .before .before .before .before .before .before .before .before .before .before .before .before .before .before .before in
-    let v = c .before .before .before .before .before .before .before .before .before .before .before in
-    (handed (S x .args .read) (now (S x .args .nodes)) (B x) (x .explore .result) (x .explore .ensures) (v .outcome .given .0 .0) (v .outcome .given .0 .1 .0) (v .outcome .given .1) (S x .pre .0) (room v) (omega (arith, few v, x .explore .kept .1 .1 .1 .1 .1 .1 .1 .0)) (omega (arith, room v .few, few-nodes v, x .explore .kept .1 .1 .1 .0)) (omega (arith, few-nodes v, x .explore .kept .1 .1 .1 .1 .0)), record { nodes = omega (arith, S x .pre .1 .nodes, x .explore .kept .1 .1 .0); potentials = S x .pre .1 .potentials; steps = S x .pre .1 .steps })
+    let v = K c in
+    let x = X v in
+    let pre = S x .pre in (
+      handed (S x .args .read) (now (S x .args .nodes)) (B x) (x .explore .result) (x .explore .ensures) (n v) (m v) (v .outcome .given .1) (pre .0) (room v) (room-code v) (room-order v) (room-tree v),
+      record { nodes = omega (arith, pre .1 .nodes, same x .nodes); potentials = pre .1 .potentials; steps = pre .1 .steps },
+    )
 
 enum-told-2 : tie.Need-enum-told-2
 enum-told-2 c = search needs
@@ -119,7 +178,10 @@ refused-requires : tie.Need-refused-requires
 refused-requires c κs = search needs
 
 same-length : tie.Need-same-length
-same-length c = c .before .before .before .before .before .refuse .kept .1 .0 ∙ c .before .before .before .before .before .before .before .before .before .before .before .before .before .before .before .before .before .before .before .before .before .explore .kept .1 .1 .0
+same-length c =
+    let f = c .before .before .before .before .before in
+    let e = f .before .before .before .before in
+    f .refuse .kept .1 .0 ∙ same (E (e .before .before)) .nodes
 
 same-length-2 : tie.Need-same-length-2
 same-length-2 c = search needs
@@ -129,11 +191,12 @@ same-length-3 c = search needs
 
 returns : tie.Need-returns
 returns c =
-    let x = c .before .before .before .before .before .before .before .before .before .before .before .before .before .before .before .before .before .before .before .before .before in
-    let r = c .before .before .before .before .before .refuse .ensures in
-    λ o. refused-planned (o .bytes) (lent (now (S x .args .nodes)) (now (S x .args .potentials)) (now (S x .args .steps))) (x .explore .last .1 .1 .0) (now (S x .args .potentials)) (now (S x .args .steps)) _ _ _ 12 _
-    (record { nodes = x .explore .kept .1 .1 .0; potentials = refl; steps = refl }) (r .1 .0) (r .1 .1 .0) (r .1 .1 .1) (r .0)
-    (too-many-nodes (o .bytes) (lent (now (S x .args .nodes)) (now (S x .args .potentials)) (now (S x .args .steps))) (S x .pre .1) (o .checked) (x .explore .last .1 .0) (overfull (S x .args .read) (now (S x .args .nodes)) (B x) (x .explore .result) (x .explore .ensures) (c .before .before .before .before .before .before .before .before .before .enum-told .given .1) o))
+    let f = c .before .before .before .before .before in
+    let w = f .refuse .ensures in
+    let e = f .before .before .before .before in
+    let x = E (e .before .before) in
+    λ o. refused-planned (same x) (w .1 .0) (w .1 .1 .0) (w .1 .1 .1) (w .0) (too-many-nodes (o .bytes) (before x) (S x .pre .1) (o .checked) (B x .node)
+    (overfull (S x .args .read) (now (S x .args .nodes)) (B x) (x .explore .result) (x .explore .ensures) (e .enum-told .given .1) o))
 
 same-length-4 : tie.Need-same-length-4
 same-length-4 c = search needs
@@ -146,17 +209,18 @@ same-length-6 c = search needs
 
 returns-2 : tie.Need-returns-2
 returns-2 c =
-    let x = c .before .before .before .before .before .before .before .before .before .before .before .before .before .before .before .before .before .before .before .before .before .before .before .before .before .before .before .before .before in
-    let v = c .before .before .before .before .before .before .before .before .before .before .before .before .before .before .before .before .before in
-    λ o. c .before .before .before .before .before .plan-graph .ensures (of-sheet (S x .args .read) (now (S x .args .nodes)) (B x) (x .explore .result) (x .explore .ensures) (v .outcome .given .0 .0) (v .outcome .given .0 .1 .0) (v .outcome .given .1) o (room v) (omega (arith, few v, x .explore .kept .1 .1 .1 .1 .1 .1 .1 .0)) (omega (arith, room v .few, few-nodes v, x .explore .kept .1 .1 .1 .0)) (omega (arith, few-nodes v, x .explore .kept .1 .1 .1 .1 .0))
-    (lent (now (S x .args .nodes)) (now (S x .args .potentials)) (now (S x .args .steps))) (lent (x .explore .last .1 .1 .0) (now (S x .args .potentials)) (now (S x .args .steps))) (S x .pre .1) (record { nodes = x .explore .kept .1 .1 .0; potentials = refl; steps = refl }) refl)
+    let g = c .before .before .before .before .before in
+    let v = K (g .before) in
+    let x = X v in
+    λ o. g .plan-graph .ensures (of-sheet (S x .args .read) (now (S x .args .nodes)) (B x) (x .explore .result) (x .explore .ensures) (n v) (m v) (v .outcome .given .1) o
+    (room v) (room-code v) (room-order v) (room-tree v) (before x) (after x) (S x .pre .1) (same x) refl)
 
 same-length-7 : tie.Need-same-length-7
 same-length-7 c = search needs
 
 returns-3 : tie.Need-returns-3
 returns-3 c =
-    let x = c .before .before .before .before .before .before .before .before .before .before .before .before .before in
+    let x = E (c .before .before .before) in
     absurd (never (S x .args .read) (now (S x .args .nodes)) (B x) (x .explore .result) (x .explore .ensures) (c .before .enum-told2 .given .1) (S x .pre .1 .nodes))
 
 pub plan-read-spec : {M : Type 1} → statement M
