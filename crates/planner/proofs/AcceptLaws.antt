@@ -9,8 +9,8 @@ use lib.Seq.{slice}
 use Rattle.walks.specs.Walk.{at}
 use Rattle.lasso.specs.Answer.{LaidOut}
 use Rattle.contract.specs.Plan.{Buffers, LongEnough, Planned, Answer}
-use Rattle.contract.specs.Explored.{Found}
-use Rattle.contract.proofs.Hand.{Sorted, InHand}
+use Rattle.contract.specs.Explored.{Found, Sorted}
+use Rattle.contract.proofs.Hand.{InHand}
 use Rattle.contract.proofs.Exits.{accepted}
 use Rattle.planner.specs.Lent.{lent}
 use Rattle.planner.specs.Hands.{cleared, Picked, Cyclic, Solved, graphOf}
