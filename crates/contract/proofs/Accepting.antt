@@ -7,6 +7,7 @@ use native.Mathlib.Decide.{decLt}
 use native.Mathlib.Omega.{arith}
 use lib.IntN.{ℤ, pos, natAbs}
 use lib.ListN.{length}
+use Rattle.integers.proofs.Pigeonhole.{onto}
 use Rattle.automaton.specs.Priced.{Priced}
 use Rattle.automaton.specs.Walks.{Reachable, ReachableCycle}
 use Rattle.automaton.specs.Weights.{Feasible}
@@ -18,11 +19,10 @@ use Rattle.walks.specs.Weight.{LeastWeight, Potential}
 use Rattle.walks.proofs.Weights.{least-of}
 use Rattle.contract.specs.Questions.{IdleCycle}
 use Rattle.contract.specs.Accepted.{NodeList, PotentialList}
-use Rattle.contract.specs.Explored.{Found, Explored}
+use Rattle.contract.specs.Explored.{Found, Explored, Sorted}
 use Rattle.contract.specs.Certificate.{indexOf}
-use Rattle.contract.proofs.Hand.{weightAt, Sorted}
+use Rattle.contract.proofs.Hand.{weightAt}
 use Rattle.contract.proofs.Indices.{first-at}
-use Rattle.contract.proofs.Counts.{onto}
 use Rattle.contract.proofs.Arcs.{listed, all-reached}
 use Rattle.contract.proofs.Searches.{potential}
 

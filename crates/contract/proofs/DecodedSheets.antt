@@ -1,19 +1,16 @@
 -- Exploring by the decoded sheet is exploring by the bytes: the two step alike at every reachable node.
 use mathlib.Core.Path.{_≡_, refl, sym, ap, _∙_, subst}
-use mathlib.Core.Bool.{Bool, true, cond}
+use mathlib.Core.Bool.{true}
 use mathlib.Core.List.{List}
 use mathlib.Core.Option.{Option, none, some, Option·map}
 use Prim.Native.Nat.{ℕ}
-use borrow.Author.Tests.{eqb-true}
-use lib.Dec.{eqb}
 use lib.ListN.{replicate}
 use Rattle.automaton.specs.Priced.{Priced}
 use Rattle.automaton.specs.Nodes.{startNode}
 use Rattle.automaton.specs.Walks.{Reachable}
-use Rattle.automaton.proofs.Tests.{by-bool}
 use Rattle.automaton.proofs.Reached.{start-is-node}
 use Rattle.sheet.specs.Questions.{checkOf}
-use Rattle.sheet.specs.Decoded.{decodedSheet, refusedSheet, readOf}
+use Rattle.sheet.specs.Decoded.{readOf}
 use Rattle.nodes.specs.Numbers.{firstLayout, number, isNumber}
 use Rattle.nodes.specs.Meaning.{meaning, layoutOf}
 use Rattle.nodes.specs.Decoded.{decodedMeaning}
@@ -63,13 +60,6 @@ module _ (f h : ℕ → ℕ → Option (Priced ℕ)) (start : ℕ) (P : ℕ → 
     fresh = o .fresh;
     extra-reachable = reach-alike (o .extra-reachable);
   }
-
--- the decoded sheet carries the refusal of the check
-pub read-refusal : (bytes : List ℕ) → readOf bytes .refusal ≡ checkOf bytes
-unfolding readOf
-read-refusal bytes = by-bool (eqb (checkOf bytes) 0)
-    (λ t. ap (λ (b : Bool). cond b (decodedSheet bytes) (refusedSheet (checkOf bytes)) .refusal) t ∙ sym (eqb-true (checkOf bytes) 0 t))
-    (λ f. ap (λ (b : Bool). cond b (decodedSheet bytes) (refusedSheet (checkOf bytes)) .refusal) f)
 
 module _ (bytes : List ℕ) (ok : checkOf bytes ≡ 0) where
   same-start : startRead (readOf bytes) ≡ startOf bytes

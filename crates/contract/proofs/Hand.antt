@@ -14,16 +14,11 @@ use Rattle.walks.specs.Cycles.{EachEarns}
 use Rattle.walks.proofs.Lassos.{Lasso}
 use Rattle.contract.specs.Plan.{Buffers, LongEnough, SameLengths, stepOn, startOf}
 use Rattle.contract.specs.Explored.{Found, Explored}
+pub use Rattle.contract.specs.Explored.{Sorted}
 
 -- the weights at the ratio p/q, coefficients q, −p and 0: a cycle is negative just where its ratio is below
 abbrev pub weightAt : ℤ → ℕ → Found → ℕ → ℤ
 weightAt p q g = weightOf (pos q) (negℤ p) (pos 0) (g .cost) (g .reward)
-
--- the order of output: entry i of the node list is the node `at order i` by discovery
-pub record Sorted (g : Found) (order nodes : List ℕ) : Type 0 where
-  pub below : (i : ℕ) → i < g .n → at order i < g .n
-  pub is : (i : ℕ) → i < g .n → at nodes i ≡ at (g .node) (at order i)
-  pub rising : (i j : ℕ) → i < j → j < g .n → at nodes i < at nodes j
 
 -- g is the explored graph, p/q the ratio, D the potentials by discovery that the last search left, stem and cycle the lasso as arcs of g
 pub record InHand (bytes : List ℕ) (before after : Buffers) (g : Found) (p : ℤ) (q : ℕ) (D : List ℤ) (order stem cycle : List ℕ) : Type 0 where

@@ -54,6 +54,12 @@ module _ (step : ℕ → ℕ → Option (Priced ℕ)) (start : ℕ) where
     pub fresh : (a : ℕ) → a < 2048 → at node a ≡ extra → ⊥
     pub extra-reachable : Reachable step start extra
 
+-- the order of output: entry i of the node list is the node `at order i` by discovery
+pub record Sorted (g : Found) (order nodes : List ℕ) : Type 0 where
+  pub below : (i : ℕ) → i < g .n → at order i < g .n
+  pub is : (i : ℕ) → i < g .n → at nodes i ≡ at (g .node) (at order i)
+  pub rising : (i j : ℕ) → i < j → j < g .n → at nodes i < at nodes j
+
 -- the steps of a decoded sheet, on node numbers, and its start
 abbrev pub stepRead : Sheet → ℕ → ℕ → Option (Priced ℕ)
 stepRead s = stepBy firstLayout (decodedMeaning s)

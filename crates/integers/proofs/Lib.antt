@@ -5,3 +5,4 @@ pub mod Reduction
 pub mod Unique
 pub mod Fractions
 pub mod Pigeonhole
+pub mod Lists

@@ -6,7 +6,7 @@ use mathlib.Core.Option.{none, Option·getD, Option·map}
 use Prim.Native.Nat.{ℕ, zero, suc, _+_, _/_, _^_, _≤_, _<_}
 use native.Mathlib.Nat.{add-zero, mod-lt}
 use native.Mathlib.Omega.{arith}
-use borrow.Author.Tests.{eq-eqb, lt-ltb, lt-leb}
+use borrow.Author.Tests.{eqb-true, eq-eqb, lt-ltb, lt-leb}
 use lib.Dec.{leb, ltb, eqb, lit<}
 use lib.ListN.{length, getD}
 use Rattle.automaton.specs.Automaton.{inBounds, inGuards}
@@ -14,6 +14,7 @@ use Rattle.automaton.specs.Ranks.{largest}
 use Rattle.automaton.specs.Nodes.{Node, usesEachRank, inside, isNode}
 use Rattle.automaton.specs.Steps.{edgeStep, unitStep, moveStep, step}
 use Rattle.automaton.proofs.Codes.{step-edge}
+use Rattle.automaton.proofs.Tests.{by-bool}
 use Rattle.sheet.specs.Maps.{stands}
 use Rattle.sheet.specs.Fields.{first}
 use Rattle.sheet.specs.Records.{fieldAt, recordAt, locationAt, edgeAt, locationsIn, clocksIn, edgesIn}
@@ -39,6 +40,13 @@ clock-byte kind s at b d zero h = ap (λ (x : ℕ). Option·getD (fieldAt kind s
 clock-byte kind s at b d (suc zero) h = refl
 clock-byte kind s at b d (suc (suc zero)) h = refl
 clock-byte kind s at b d (suc (suc (suc j))) h = absurd (omega arith)
+
+-- the decoded sheet carries the refusal of the check
+pub read-refusal : (bytes : List ℕ) → readOf bytes .refusal ≡ checkOf bytes
+unfolding readOf
+read-refusal bytes = by-bool (eqb (checkOf bytes) 0)
+    (λ t. ap (λ (b : Bool). cond b (decodedSheet bytes) (refusedSheet (checkOf bytes)) .refusal) t ∙ sym (eqb-true (checkOf bytes) 0 t))
+    (λ f. ap (λ (b : Bool). cond b (decodedSheet bytes) (refusedSheet (checkOf bytes)) .refusal) f)
 
 pub read-passed : (s : List ℕ) → checkOf s ≡ 0 → readOf s ≡ decodedSheet s
 unfolding readOf

@@ -1,20 +1,20 @@
 -- The way out where the sheet is accepted: what was found and written is the contract.
 use mathlib.Core.Path.{_≡_, sym, ap, ap₂, _∙_, subst}
-use mathlib.Core.List.{List, _++_}
+use mathlib.Core.List.{List}
 use Prim.Native.Nat.{ℕ, _+_, _≤_, _<_}
 use native.Mathlib.Omega.{arith}
 use lib.IntN.{ℤ, pos}
 use lib.ListN.{length, getD, take}
 use lib.Seq.{slice}
-use Rattle.walks.specs.Walk.{at, atℤ}
+use Rattle.walks.specs.Walk.{at}
 use Rattle.lasso.specs.Answer.{LaidOut}
 use Rattle.contract.specs.Plan.{Buffers, LongEnough, Planned, Answer}
-use Rattle.contract.specs.Explored.{Found}
-use Rattle.contract.proofs.Hand.{Sorted, InHand}
+use Rattle.contract.specs.Explored.{Found, Sorted}
+use Rattle.contract.proofs.Hand.{InHand}
 use Rattle.contract.proofs.Exits.{accepted}
 use Rattle.planner.specs.Lent as Lent
 use Rattle.planner.specs.Lent.{lent}
-use Rattle.planner.specs.Hands.{cleared, Picked, Pickable, Cyclic, Solved, graphOf}
+use Rattle.planner.specs.Hands.{cleared, Picked, Cyclic, Solved, graphOf}
 use Rattle.planner.proofs.ListLaws.{cleared-sized, cleared-front, cleared-rest}
 use Rattle.planner.proofs.LassoLaws as Laid
 

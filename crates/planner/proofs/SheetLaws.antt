@@ -7,13 +7,11 @@ use lib.IntN.{ℤ, pos}
 use lib.ListN.{length, take, replicate, length-replicate}
 use lib.Seq.{getD-take, length-take-le}
 use Rattle.sheet.specs.declared.Sheet.{Sheet}
-use Rattle.sheet.specs.Decoded.{readOf}
 use Rattle.walks.specs.Walk.{at}
 use Rattle.lasso.specs.Answer.{TreeArc}
 use Rattle.contract.specs.Plan as Contract
 use Rattle.contract.specs.Plan.{stepOn, startOf}
-use Rattle.contract.specs.Explored.{Found, Explored, Overfull, stepRead, startRead}
-use Rattle.contract.proofs.Hand.{Sorted}
+use Rattle.contract.specs.Explored.{Explored, Overfull, stepRead, startRead, Sorted}
 use Rattle.contract.proofs.Graphs.{Room, cut, explored-cut, graph}
 use Rattle.contract.proofs.DecodedSheets.{explored-read, overfull-read}
 use Rattle.explore.specs.Buffers.{Buffers, buffers, found, LongEnough}

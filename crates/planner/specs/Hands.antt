@@ -3,7 +3,7 @@ use mathlib.Core.Path.{_≡_}
 use mathlib.Core.List.{List, _++_}
 use Prim.Native.Nat.{ℕ, _-_, _≤_, _<_}
 use lib.IntN.{ℤ}
-use lib.ListN.{length, getD, take, drop, replicate}
+use lib.ListN.{length, getD, take, replicate}
 use Rattle.sheet.specs.Questions.{checkOf}
 use Rattle.sheet.specs.Decoded.{readOf}
 use Rattle.sheet.specs.declared.Sheet.{Sheet}
@@ -13,8 +13,7 @@ use Rattle.walks.specs.Cycles.{SimpleCycle}
 use Rattle.lasso.specs.Answer as Lasso
 use Rattle.ratio.specs.Answer.{RatioFound}
 use Rattle.contract.specs.Plan.{Buffers, LongEnough, SameLengths, stepOn, startOf}
-use Rattle.contract.specs.Explored.{Found, Explored}
-use Rattle.contract.proofs.Hand.{Sorted}
+use Rattle.contract.specs.Explored.{Found, Explored, Sorted}
 
 -- ---- lists that are written
 

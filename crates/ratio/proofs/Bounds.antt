@@ -15,7 +15,7 @@ use Rattle.walks.specs.Form.{Graph}
 use Rattle.walks.proofs.Walks.{walk-arc}
 use Rattle.ratio.specs.Turns.{Reduced, Summed, Ready, InHand}
 
-module _ (F T : List ℕ) (cost : List ℤ) (reward : List ℕ) (n : ℕ) (g : Graph F T cost reward n) where
+module _ {F T : List ℕ} {cost : List ℤ} {reward : List ℕ} {n : ℕ} (g : Graph F T cost reward n) where
   cost-bound : (x : ℕ) (c : List ℕ) (y : ℕ) → Walk F T (length F) x c y → natAbs (sum (atℤ cost) c) ≤ 10000 * length c
   cost-bound x [] y w = omega arith
   cost-bound x (e ∷ c) y w =
@@ -25,7 +25,7 @@ module _ (F T : List ℕ) (cost : List ℤ) (reward : List ℕ) (n : ℕ) (g : G
   reward-bound x [] y w = omega arith
   reward-bound x (e ∷ c) y w = omega (arith, g .arc e (w .0) .reward-small, reward-bound (at T e) c y (w .2))
 
-  module _ (hand : List ℕ) (k : ℕ) (h : InHand F T n hand k) where
+  module _ {hand : List ℕ} {k : ℕ} (h : InHand F T n hand k) where
     pub arcs : length (take k hand) ≡ k
     arcs = length-take-le k hand (omega (arith, h .short, h .room))
 
@@ -39,14 +39,14 @@ module _ (F T : List ℕ) (cost : List ℤ) (reward : List ℕ) (n : ℕ) (g : G
     hand-arc i l = subst (λ (x : ℕ). x < length F) (getD-take k hand i 0 l)
         (walk-arc F T (length F) (h .cycle .hub) (take k hand) (h .cycle .hub) (h .cycle .cycle .walk) i (omega (arith, arcs)))
 
-pub summed : (F T : List ℕ) (cost : List ℤ) (reward : List ℕ) (n a b : ℕ) → Ready F T cost reward n a b → (hand : List ℕ) (k : ℕ) → InHand F T n hand k
+pub summed : {F T : List ℕ} {cost : List ℤ} {reward : List ℕ} {n a b : ℕ} → Ready F T cost reward n a b → {hand : List ℕ} {k : ℕ} → InHand F T n hand k
     → Summed cost reward hand k
-summed F T cost reward n a b r hand k h = let g = r .formed .graph in record {
+summed r {hand} {k} h = let g = r .formed .graph in record {
   room = omega (arith, h .short, h .room);
   short = omega (arith, h .short, g .nodes);
-  costs = λ i l. omega (arith, hand-arc F T cost reward n g hand k h i l, g .costs);
-  rewards = λ i l. omega (arith, hand-arc F T cost reward n g hand k h i l, g .rewards);
-  cost-small = hand-cost F T cost reward n g hand k h;
+  costs = λ i l. omega (arith, hand-arc g h i l, g .costs);
+  rewards = λ i l. omega (arith, hand-arc g h i l, g .rewards);
+  cost-small = hand-cost g h;
   earns = r .earns (h .cycle .hub) (take k hand) (h .cycle .reached) (h .cycle .cycle);
 }
 

@@ -24,25 +24,25 @@ use Rattle.ratio.proofs.Bounds.{hand-cost, hand-reward}
 use Rattle.ratio.proofs.Searches.{simple-of}
 
 -- with the lengths that stay as they are
-pub same-room : (F T : List ℕ) (n : ℕ) (hand hand' : List ℕ) (k : ℕ) → hand' ≡ hand → InHand F T n hand k → InHand F T n hand' k
-same-room F T n hand hand' k e h = subst (λ (l : List ℕ). InHand F T n l k) (sym e) h
+pub same-room : {F T : List ℕ} {n : ℕ} {hand hand' : List ℕ} {k : ℕ} → hand' ≡ hand → InHand F T n hand k → InHand F T n hand' k
+same-room e h = rw e h
 
-module _ (F T : List ℕ) (cost : List ℤ) (reward : List ℕ) (n a b : ℕ) (r : Ready F T cost reward n a b) (hand : List ℕ) (k : ℕ) (h : InHand F T n hand k) where
+module _ {F T : List ℕ} {cost : List ℤ} {reward : List ℕ} {n a b : ℕ} (r : Ready F T cost reward n a b) {hand : List ℕ} {k : ℕ} (h : InHand F T n hand k) where
   abbrev c : List ℕ
   c = take k hand
 
   abbrev earned : 0 < total (at reward) c
   earned = r .earns (h .cycle .hub) c (h .cycle .reached) (h .cycle .cycle)
 
-  module _ (p : ℤ) (q : ℕ) (f : Reduced (sum (atℤ cost) c) (total (at reward) c) p q) where
+  module _ {p : ℤ} {q : ℕ} (f : Reduced (sum (atℤ cost) c) (total (at reward) c) p q) where
     abbrev W : ℕ → ℤ
     W = weightOf (pos q) (negℤ p) (pos 0) cost reward
 
     pub p-small : natAbs p ≤ 20480000
-    p-small = omega (arith, f .p-small, hand-cost F T cost reward n (r .formed .graph) hand k h)
+    p-small = omega (arith, f .p-small, hand-cost (r .formed .graph) h)
 
     pub q-small : q ≤ 20480000
-    q-small = omega (arith, f .q-small, hand-reward F T cost reward n (r .formed .graph) hand k h)
+    q-small = omega (arith, f .q-small, hand-reward (r .formed .graph) h)
 
     pub formed : (potentials room : ℕ) → n ≤ potentials → n ≤ room → Search.WellFormed F T cost reward (pos q) (negℤ p) (pos 0) n potentials room
     formed potentials room hp hr = record {
@@ -57,9 +57,9 @@ module _ (F T : List ℕ) (cost : List ℤ) (reward : List ℕ) (n a b : ℕ) (r
     }
 
     -- a cycle is found: it is cheaper
-    pub improved : (potential potential' : List ℤ) (hand' : List ℕ) (j : ℕ) → length hand' ≡ length hand
+    pub improved : {potential potential' : List ℤ} {hand' : List ℕ} {j : ℕ} → length hand' ≡ length hand
         → Search.CycleFound F T W n j potential potential' hand hand' → Improved F T cost reward n k j potential potential' hand hand'
-    improved potential potential' hand' j e g = record {
+    improved {hand' = hand'} {j = j} e g = record {
       in-hand = record { short = g .short; room = omega (arith, h .room); cycle = simple-of F T (length F) W (take j hand') (g .negative) };
       cheaper = cheaper (sum (atℤ cost) (take j hand')) (sum (atℤ cost) c) p (total (at reward) (take j hand')) (total (at reward) c) q
           (sum W (take j hand')) earned
@@ -70,10 +70,10 @@ module _ (F T : List ℕ) (cost : List ℤ) (reward : List ℕ) (n a b : ℕ) (r
     }
 
     -- none is found: the ratio is the least
-    pub settled : (potential potential' : List ℤ) (hand' : List ℕ) → Search.PotentialsFound F T W n potential potential' hand hand'
+    pub settled : {potential potential' : List ℤ} {hand' : List ℕ} → Search.PotentialsFound F T W n potential potential' hand hand'
         → Settled F T cost reward n potential potential' hand' p q k
-    settled potential potential' hand' g = record {
-      in-hand = same-room F T n hand hand' k (g .kept) h;
+    settled g = record {
+      in-hand = same-room (g .kept) h;
       ratio = subst (λ (l : List ℕ). RatioOf cost reward (take k l) p q) (sym (g .kept)) (record { lowest = f .lowest; exact = f .exact });
       p-small = p-small;
       q-small = q-small;
@@ -92,19 +92,19 @@ module _ (F T : List ℕ) (cost : List ℤ) (reward : List ℕ) (n a b : ℕ) (r
       never e = absurd (subst Is e z .0 (formed (length potential) (length hand) hp (h .room)))
 
       pub better : (j : ℕ) → length hand' ≡ length hand → A ≡ Cycle j → Improved F T cost reward n k j potential potential' hand hand'
-      better j l e = improved potential potential' hand' j l (subst Is e z .1)
+      better j l e = improved l (subst Is e z .1)
 
       pub done : A ≡ Potentials → Settled F T cost reward n potential potential' hand' p q k
-      done e = settled potential potential' hand' (subst Is e z .1)
+      done e = settled (subst Is e z .1)
 
   -- the height of the cycle in hand falls
-  pub falls : (hand' : List ℕ) (j : ℕ) → InHand F T n hand' j → Cheaper cost reward (take j hand') c
+  pub falls : {hand' : List ℕ} {j : ℕ} → InHand F T n hand' j → Cheaper cost reward (take j hand') c
       → height (sum (atℤ cost) (take j hand')) (total (at reward) (take j hand')) < height (sum (atℤ cost) c) (total (at reward) c)
-  falls hand' j h' less = let g = r .formed .graph in
+  falls {hand'} {j} h' less = let g = r .formed .graph in
       height-falls (sum (atℤ cost) (take j hand')) (sum (atℤ cost) c) (total (at reward) (take j hand')) (total (at reward) c)
       (r .earns (h' .cycle .hub) (take j hand') (h' .cycle .reached) (h' .cycle .cycle)) earned
-      (hand-reward F T cost reward n g hand' j h') (hand-reward F T cost reward n g hand k h)
-      (hand-cost F T cost reward n g hand' j h') (hand-cost F T cost reward n g hand k h) less
+      (hand-reward g h') (hand-reward g h)
+      (hand-cost g h') (hand-cost g h) less
 
 -- the search at the numbers that the code has
 pub coded : (F T : List ℕ) (cost : List ℤ) (reward : List ℕ) (p : ℤ) (q n : ℕ) (potential potential' : List ℤ) (hand hand' : List ℕ) (A : Answer) {a b : ℤ}
@@ -115,13 +115,12 @@ coded F T cost reward p q n potential potential' hand hand' A {a} {b} ea eb z =
     (subst (λ (x : ℤ). Search.Answered F T cost reward x b (pos 0) n potential potential' hand hand' A) ea z)
 
 -- what is read back of the numerator
-pub again-settled : (F T : List ℕ) (cost : List ℤ) (reward : List ℕ) (n : ℕ) (potential potential' : List ℤ) (hand : List ℕ) (p : ℤ) (q k : ℕ) → SFits w64 p
+pub again-settled : {F T : List ℕ} {cost : List ℤ} {reward : List ℕ} {n : ℕ} {potential potential' : List ℤ} {hand : List ℕ} {p : ℤ} {q k : ℕ} → SFits w64 p
     → Settled F T cost reward n potential potential' hand p q k → Settled F T cost reward n potential potential' hand (toZ w64 (ofZ w64 p)) q k
-again-settled F T cost reward n potential potential' hand p q k f h =
-    subst (λ (z : ℤ). Settled F T cost reward n potential potential' hand z q k) (sym (toZ-ofZ w64 p f)) h
+again-settled {p = p} f h = rw (toZ-ofZ w64 p f) h
 
-pub same-ready : (F T : List ℕ) (cost : List ℤ) (reward : List ℕ) (n a b a' b' : ℕ) → a' ≡ a → b' ≡ b → Ready F T cost reward n a b → Ready F T cost reward n a' b'
-same-ready F T cost reward n a b a' b' ea eb r = rw (ea, eb) r
+pub same-ready : {F T : List ℕ} {cost : List ℤ} {reward : List ℕ} {n a b a' b' : ℕ} → a' ≡ a → b' ≡ b → Ready F T cost reward n a b → Ready F T cost reward n a' b'
+same-ready ea eb r = rw (ea, eb) r
 
 -- the two answers of a turn
 module _ (F T : List ℕ) (cost : List ℤ) (reward : List ℕ) (n k : ℕ) (potential potential' : List ℤ) (hand hand' : List ℕ) (t : Turn)

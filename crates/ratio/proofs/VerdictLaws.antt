@@ -47,16 +47,16 @@ module _ (F T : List ℕ) (cost : List ℤ) (reward : List ℕ) (n : ℕ) (poten
   }
 
 -- question 14
-pub idle-found : (F T : List ℕ) (cost : List ℤ) (reward : List ℕ) (n : ℕ) (potential potential' : List ℤ) (arcs arcs' : List ℕ) (k : ℕ) → Graph F T cost reward n
+pub idle-found : {F T : List ℕ} {cost : List ℤ} {reward : List ℕ} {n : ℕ} {potential potential' : List ℤ} {arcs arcs' : List ℕ} {k : ℕ} → Graph F T cost reward n
     → Search.CycleFound F T (weightOf (pos 0) (pos 2049) (negsuc 0) cost reward) n k potential potential' arcs arcs' → Idle F T (length F) reward
-idle-found F T cost reward n potential potential' arcs arcs' k g c =
+idle-found {F} {T} {cost} {reward} {arcs' = arcs'} {k = k} g c =
     idle F T (length F) cost reward (take k arcs') (omega (arith, length-take k arcs', c .short, g .nodes)) (c .negative)
 
 -- the least ratio, with the cycle copied to the front of the lent buffer
-pub ratio-found : (F T : List ℕ) (cost : List ℤ) (reward : List ℕ) (n : ℕ) (potential potential' : List ℤ) (hand cycle cycle' : List ℕ) (p : ℤ) (q k : ℕ)
+pub ratio-found : {F T : List ℕ} {cost : List ℤ} {reward : List ℕ} {n : ℕ} {potential potential' : List ℤ} {hand cycle cycle' : List ℕ} {p : ℤ} {q k : ℕ}
     → EachEarns F T (length F) reward → Settled F T cost reward n potential potential' hand p q k → cycle' ≡ take k hand ++ drop k cycle
     → RatioFound F T cost reward n p q k potential potential' cycle cycle'
-ratio-found F T cost reward n potential potential' hand cycle cycle' p q k earns s e = record {
+ratio-found {F} {T} {cost} {reward} {hand = hand} {cycle = cycle} {cycle' = cycle'} {p = p} {q = q} {k = k} earns s e = record {
   short = s .in-hand .short;
   attained = subst (SimpleCycle F T (length F)) (sym front) (s .in-hand .cycle);
   ratio = subst (λ (c : List ℕ). RatioOf cost reward c p q) (sym front) (s .ratio);

@@ -10,6 +10,7 @@ use lib.Dec.{eqb}
 use lib.ListN.{length, getD, take}
 use lib.Seq.{take-all}
 use Rattle.automaton.specs.Tests.{occurs, every}
+use Rattle.automaton.specs.Bounds.{interval}
 use Rattle.automaton.specs.Ranks.{rank, mask}
 use Rattle.automaton.proofs.Tests.{&&-left, &&-right, &&-intro}
 use Rattle.automaton.proofs.Ranks.{rank-in, rank-out}
@@ -30,11 +31,11 @@ every-suc p (x ∷ xs) zero h e t = &&-intro t refl
 every-suc p (x ∷ xs) (suc j) h e t = &&-intro (&&-left (p 0 x) (every (λ i. p (suc i)) (take j xs)) e)
     (every-suc (λ i. p (suc i)) xs j (omega arith) (&&-right (p 0 x) (every (λ i. p (suc i)) (take j xs)) e) t)
 
-pub every-more : (p : ℕ → ℕ → Bool) (xs : List ℕ) (j : ℕ) → j < length xs → every p (take j xs) ≡ true → p j (getD xs j 0) ≡ true
+every-more : (p : ℕ → ℕ → Bool) (xs : List ℕ) (j : ℕ) → j < length xs → every p (take j xs) ≡ true → p j (getD xs j 0) ≡ true
     → every p (take (j + 1) xs) ≡ true
 every-more p xs j h e t = ap (λ (n : ℕ). every p (take n xs)) (add-one j) ∙ every-suc p xs j h e t
 
-pub every-fails : (p : ℕ → ℕ → Bool) (xs : List ℕ) (k j : ℕ) → j < k → j < length xs → p j (getD xs j 0) ≡ false → every p (take k xs) ≡ false
+every-fails : (p : ℕ → ℕ → Bool) (xs : List ℕ) (k j : ℕ) → j < k → j < length xs → p j (getD xs j 0) ≡ false → every p (take k xs) ≡ false
 unfolding every
 every-fails p xs zero j h l t = absurd (omega arith)
 every-fails p [] (suc k) j h l t = absurd (omega arith)
@@ -90,19 +91,35 @@ module _ (xs : List ℕ) (three : length xs ≡ 3) (v n : ℕ) (so-far : n ≡ r
 
 -- ---- two lists entry by entry
 
-pub zip-at : (f : ℕ → ℕ → ℕ) (xs ys : List ℕ) (j : ℕ) → j < length xs → j < length ys → getD (zipWith f xs ys) j 0 ≡ f (getD xs j 0) (getD ys j 0)
+zip-at : (f : ℕ → ℕ → ℕ) (xs ys : List ℕ) (j : ℕ) → j < length xs → j < length ys → getD (zipWith f xs ys) j 0 ≡ f (getD xs j 0) (getD ys j 0)
 unfolding zipWith
 zip-at f [] ys j h l = absurd (omega arith)
 zip-at f (x ∷ xs) [] j h l = absurd (omega arith)
 zip-at f (x ∷ xs) (y ∷ ys) zero h l = refl
 zip-at f (x ∷ xs) (y ∷ ys) (suc j) h l = zip-at f xs ys j (omega arith) (omega arith)
 
-pub zip-long : (f : ℕ → ℕ → ℕ) (xs ys : List ℕ) (n : ℕ) → length xs ≡ n → length ys ≡ n → length (zipWith f xs ys) ≡ n
+zip-long : (f : ℕ → ℕ → ℕ) (xs ys : List ℕ) (n : ℕ) → length xs ≡ n → length ys ≡ n → length (zipWith f xs ys) ≡ n
 unfolding zipWith
 zip-long f [] ys n h l = h
 zip-long f (x ∷ xs) [] n h l = absurd (omega arith)
 zip-long f (x ∷ xs) (y ∷ ys) zero h l = absurd (omega arith)
 zip-long f (x ∷ xs) (y ∷ ys) (suc n) h l = ap suc (zip-long f xs ys n (omega arith) (omega arith))
+
+-- ---- a test of each clock's interval, b where j is asked with x
+
+module _ (p : ℕ → ℕ → Bool) (hs ks : List ℕ) (h : length hs ≡ 3) (k : length ks ≡ 3) (j : ℕ) (l : j < 3) {x : ℕ} {b : Bool}
+    (x-is : x ≡ interval (getD hs j 0) (getD ks j 0)) (b-is : b ≡ p j x) where
+  asked : p j (getD (zipWith interval hs ks) j 0) ≡ b
+  asked = ap (p j) (zip-at interval hs ks j (omega arith) (omega arith) ∙ sym x-is) ∙ sym b-is
+
+  there : j < length (zipWith interval hs ks)
+  there = omega (arith, zip-long interval hs ks 3 h k)
+
+  pub clock-more : every p (take j (zipWith interval hs ks)) ≡ true → b ≡ true → every p (take (j + 1) (zipWith interval hs ks)) ≡ true
+  clock-more e t = every-more p (zipWith interval hs ks) j there e (asked ∙ t)
+
+  pub clock-fails : (n : ℕ) → j < n → b ≡ false → false ≡ every p (take n (zipWith interval hs ks))
+  clock-fails n m f = sym (every-fails p (zipWith interval hs ks) n j m there (asked ∙ f))
 
 -- a reset raises nothing
 pub mask-below : (b : ℕ) (r : ℕ → Bool) (xs : List ℕ) → ((j : ℕ) → getD xs j 0 < b) → (j : ℕ) → getD (mask r xs) j 0 < b

@@ -1,16 +1,15 @@
 -- Questions 15 and 16 of a decoded sheet by its records; and what was read steps as its bytes do.
-use mathlib.Core.Path.{_≡_, refl, sym, ap, ap₂, _∙_}
+use mathlib.Core.Path.{_≡_, sym, ap, ap₂, _∙_}
 use mathlib.Core.Bool.{Bool, true, false, cond, _&&_}
-use mathlib.Core.List.{List, [], _∷_}
-use Prim.Native.Nat.{ℕ, zero, suc, _≤_, _<_}
-use native.Mathlib.Omega.{arith}
+use mathlib.Core.List.{List}
+use Prim.Native.Nat.{ℕ, _≤_, _<_}
 use borrow.Author.Tests.{eqb-true, eq-eqb, ne-eqb, le-leb, lt-leb, lt-ltb, le-ltb}
 use lib.Dec.{eqb}
-use lib.ListN.{length, getD}
+pub use Rattle.integers.proofs.Lists.{any-default}
 use Rattle.automaton.specs.Steps.{edgeStep, step}
 use Rattle.automaton.proofs.Tests.{by-bool}
 use Rattle.sheet.specs.Questions.{checkOf}
-use Rattle.sheet.specs.Decoded.{blankEdge, decodedSheet, refusedSheet, readOf}
+use Rattle.sheet.specs.Decoded.{blankEdge, readOf}
 use Rattle.sheet.specs.declared.Edge.{Edge}
 use Rattle.sheet.specs.declared.Location.{Location}
 use Rattle.sheet.specs.declared.Sheet.{Sheet}
@@ -20,7 +19,7 @@ use Rattle.nodes.specs.Decoded.{locationIn, edgeIn, decodedMeaning, alone}
 use Rattle.nodes.proofs.CheckedLaws.{sound, room}
 use Rattle.nodes.proofs.NumberLaws.{node-there}
 use Rattle.nodes.proofs.AgreeLaws.{Agree, numbers-agree, number-steps-agree}
-use Rattle.nodes.proofs.DecodedLaws.{read-agrees, edge-alone-number, delay-alone-number, number-alone}
+use Rattle.nodes.proofs.DecodedLaws.{read-refusal, read-agrees, edge-alone-number, delay-alone-number, number-alone}
 use Rattle.region.specs.Answers.{refused, answered}
 use Rattle.region.specs.declared.Stepped.{Stepped}
 use Rattle.step.specs.Step.{answerAt, stepOf, stepIn}
@@ -77,19 +76,7 @@ module _ (s : Sheet) (x : ℕ) where
     unfolding stepIn answerAt
     step-answered z h = sym (simp (eq-eqb _ _ z, h))
 
--- what stands below the length is there whatever stands past it
-pub any-default : {X : Type 0} (xs : List X) (j : ℕ) (c d : X) → j < length xs → getD xs j c ≡ getD xs j d
-any-default [] j c d h = absurd (omega arith)
-any-default (x ∷ xs) zero c d h = refl
-any-default (x ∷ xs) (suc j) c d h = any-default xs j c d (omega arith)
-
 -- ---- what was read steps as its bytes do
-
-refusal-is : (bytes : List ℕ) → readOf bytes .refusal ≡ checkOf bytes
-unfolding readOf
-refusal-is bytes = by-bool (eqb (checkOf bytes) 0)
-    (λ t. ap (λ (b : Bool). cond b (decodedSheet bytes) (refusedSheet (checkOf bytes)) .refusal) t ∙ sym (eqb-true (checkOf bytes) 0 t))
-    (λ f. ap (λ (b : Bool). cond b (decodedSheet bytes) (refusedSheet (checkOf bytes)) .refusal) f)
 
 answers-agree : (bytes : List ℕ) → checkOf bytes ≡ 0 → (x code : ℕ)
     → answerAt firstLayout (decodedMeaning (readOf bytes)) x code ≡ answerAt firstLayout (meaning bytes) x code
@@ -110,7 +97,7 @@ answers-agree bytes ok x code = sym (by-bool (isNumber firstLayout (meaning byte
 pub read-steps : (bytes : List ℕ) (x code : ℕ) → stepIn (readOf bytes) x code ≡ stepOf bytes x code
 unfolding stepIn stepOf
 read-steps bytes x code = by-bool (eqb (checkOf bytes) 0)
-    (λ t. ap₂ (λ (r : ℕ) (v : Stepped). cond (eqb r 0) v (refused r)) (refusal-is bytes) (answers-agree bytes (eqb-true (checkOf bytes) 0 t) x code))
-    (λ f. ap (λ (r : ℕ). cond (eqb r 0) (answerAt firstLayout (decodedMeaning (readOf bytes)) x code) (refused r)) (refusal-is bytes)
+    (λ t. ap₂ (λ (r : ℕ) (v : Stepped). cond (eqb r 0) v (refused r)) (read-refusal bytes) (answers-agree bytes (eqb-true (checkOf bytes) 0 t) x code))
+    (λ f. ap (λ (r : ℕ). cond (eqb r 0) (answerAt firstLayout (decodedMeaning (readOf bytes)) x code) (refused r)) (read-refusal bytes)
     ∙ ap (λ (b : Bool). cond b (answerAt firstLayout (decodedMeaning (readOf bytes)) x code) (refused (checkOf bytes))) f
     ∙ sym (ap (λ (b : Bool). cond b (answerAt firstLayout (meaning bytes) x code) (refused (checkOf bytes))) f))

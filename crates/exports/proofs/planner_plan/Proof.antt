@@ -11,6 +11,13 @@ use borrow.Author.Needs.{needs}
 use Rattle.exports.proofs.planner_plan.Statement.{statement}
 use Rattle.exports.proofs.planner_plan.Tie as tie
 
+-- after the plan, and the start
+abbrev P : tie.After-struct-told → tie.After-plan
+P c = c .before .before .before .before .before .before
+
+abbrev S : tie.After-plan → tie.Start
+S c = c .before .before .before .before .before .before .before .before
+
 returns : tie.Need-returns
 returns c = too-short (omega arith) refl refl refl
 
@@ -58,10 +65,12 @@ same-length-4 c = search needs
 
 returns-2 : tie.Need-returns-2
 returns-2 c =
-    let s = c .before .before .before .before .before .before .before .before .before .before .before .before .before .before .before .before .before .before in
-    let a = c .before .before .before .before .before .before .before .before .before .before .plan .result in
-    planned (omega arith) (answerOf a) (c .before .before .before .before .before .before .before .before .before .before .plan .ensures) refl (front-5 (now (s .args .out)) (passed (sfits-of (c .before .before .before .before .struct-told .given .1 .0 .1)) refl)
-    (passed (sfits-of (c .before .before .before .word .ok)) (c .before .before .before .word .ensures)) (passed (sfits-of (c .before .before .half .ok)) (c .before .before .half .ensures)) (passed (sfits-of (c .before .half2 .ok)) (c .before .half2 .ensures)) (passed (sfits-of (c .half3 .ok)) (c .half3 .ensures)))
+    let t = c .before .before .before .before in
+    let p = P t in
+    let front = front-5 (now (S p .args .out)) (passed (sfits-of (t .struct-told .given .1 .0 .1)) refl)
+    (passed (sfits-of (c .before .before .before .word .ok)) (c .before .before .before .word .ensures)) (passed (sfits-of (c .before .before .half .ok)) (c .before .before .half .ensures))
+    (passed (sfits-of (c .before .half2 .ok)) (c .before .half2 .ensures)) (passed (sfits-of (c .half3 .ok)) (c .half3 .ensures)) in
+    planned (omega arith) (answerOf (p .plan .result)) (p .plan .ensures) refl front
 
 pub planner-plan-spec : {M : Type 1} → statement M
 planner-plan-spec =

@@ -42,12 +42,15 @@ same-length c = search needs
 
 returns-2 : tie.Need-returns-2
 returns-2 c =
-    let s = c .before .before .before .before .before .before .before in
-    let r = c .before .before .before .before .step in
+    let w = c .before .before .before in
+    let r = w .before .step in
+    let s = w .before .before .before .before in
     let cost = toZ-ofZ w16 (r .result .cost) (sfits-of (c .before .before .struct-told .given .1 .1 .0 .1)) in
-    let front = front-3 (now (s .args .out)) (passed (sfits-of (c .before .before .before .word .ok)) (c .before .before .before .word .ensures)) (passed (sfits-of (c .before .wide .ok)) (c .before .wide .ensures ∙ cost))
-    (passed (sfits-of (c .half .ok)) (c .half .ensures)) in
-    (step-refusal (now (s .args .sheet)) (s .args .node) (s .args .code) (now (s .args .out)) (omega arith) (r .result) (r .ensures), front ∙ step-out (now (s .args .sheet)) (s .args .node) (s .args .code) (now (s .args .out)) (omega arith) (r .result) (r .ensures))
+    let front = front-3 (now (s .args .out)) (passed (sfits-of (w .word .ok)) (w .word .ensures)) (passed (sfits-of (c .before .wide .ok)) (c .before .wide .ensures ∙ cost))
+    (passed (sfits-of (c .half .ok)) (c .half .ensures)) in (
+      step-refusal (now (s .args .sheet)) (s .args .node) (s .args .code) (now (s .args .out)) (omega arith) (r .result) (r .ensures),
+      front ∙ step-out (now (s .args .sheet)) (s .args .node) (s .args .code) (now (s .args .out)) (omega arith) (r .result) (r .ensures),
+    )
 
 pub planner-step-spec : {M : Type 1} → statement M
 planner-step-spec =

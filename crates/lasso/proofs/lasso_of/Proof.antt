@@ -18,7 +18,9 @@ same-length : tie.Need-same-length
 same-length c = search needs
 
 returns-2 : tie.Need-returns-2
-returns-2 c = (c .before .before .before .before .before .well-formed .ensures .yes (not-false (c .before .before .before .before .before .well-formed .result) (c .before .before .before .before .if1 .left)), c .before .before .lay-out .ensures)
+returns-2 c =
+    let w = c .before .before .before .before .before .well-formed in
+    (w .ensures .yes (not-false (w .result) (c .before .before .before .before .if1 .left)), c .before .before .lay-out .ensures)
 
 pub lasso-of-spec : {M : Type 1} → statement M
 lasso-of-spec =

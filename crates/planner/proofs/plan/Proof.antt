@@ -4,9 +4,9 @@ use native.Mathlib.Omega.{arith}
 use denote.Ref.{now}
 use Rattle.sheet.specs.declared.Sheet.{Sheet}
 use Rattle.sheet.specs.Questions.{checkOf}
+use Rattle.nodes.proofs.DecodedLaws.{read-refusal}
 use Rattle.contract.specs.Plan.{Buffers}
 use Rattle.contract.proofs.Exits.{short-buffer, faulty-sheet}
-use Rattle.contract.proofs.DecodedSheets.{read-refusal}
 use Rattle.planner.specs.Lent.{lent}
 use borrow.Author.Needs.{needs}
 use Rattle.planner.proofs.plan.Statement.{statement}

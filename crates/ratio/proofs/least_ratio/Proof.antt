@@ -1,15 +1,27 @@
 -- Question 13, and then what follows it.
 use mathlib.Core.Path.{refl}
+use mathlib.Core.List.{List}
 use Prim.Native.Nat.{ℕ}
 use borrow.Author.Needs.{needs}
 use native.Mathlib.Omega.{arith}
 use denote.Ref.{now}
-use lib.IntN.{pos}
+use lib.IntN.{ℤ, pos}
 use lib.ListN.{replicate}
 use Rattle.ratio.proofs.Searches.{acyclic}
 use Rattle.ratio.proofs.VerdictLaws.{room, no-graph, found, none, first-hand}
 use Rattle.ratio.proofs.least_ratio.Statement.{statement}
 use Rattle.ratio.proofs.least_ratio.Tie as tie
+
+-- the start
+abbrev S : tie.After-negative-cycle → tie.Start
+S c = c .before .before .before .before .before .before .before .before .before
+
+-- the potentials and the arcs as the search leaves them
+abbrev D : tie.After-negative-cycle → List ℤ
+D c = c .negative-cycle .last .1 .1 .1 .1 .1 .1 .0
+
+abbrev arcs : tie.After-negative-cycle → List ℕ
+arcs c = c .negative-cycle .last .1 .1 .1 .1 .1 .1 .1 .0
 
 returns : tie.Need-returns
 returns c = ((λ w. omega (arith, w .potential-room)), record { potentials = refl; cycles = refl })
@@ -40,23 +52,34 @@ slice-aggregate-beyond c = search needs
 
 beyond-requires : tie.Need-beyond-requires
 beyond-requires c κs =
-    let s = c .before .before .before .before .before .before .before .before .before .before .before .before .before .before .before .before .before in
-    let r = c .before .before .before .before .before .before .before .before .negative-cycle in
-    let g = found (now (s .args .from)) (now (s .args .to)) (now (s .args .cost)) (now (s .args .reward)) (s .args .nodes) 0 (omega arith) (replicate 2048 (pos 0)) (r .last .1 .1 .1 .1 .1 .1 .0) (replicate 2048 0) (r .last .1 .1 .1 .1 .1 .1 .1 .0) (r .result) (r .ensures) (c .before .before .before .before .found .given .0 .0) (c .before .before .before .before .found .given .1) in
-    (record { graph = g .0; potential-room = omega arith; cycle-room = omega arith }, first-hand (now (s .args .from)) (now (s .args .to)) (now (s .args .cost)) (now (s .args .reward)) (s .args .nodes) (replicate 2048 (pos 0)) (r .last .1 .1 .1 .1 .1 .1 .0) (replicate 2048 0) (r .last .1 .1 .1 .1 .1 .1 .1 .0) (c .before .before .before .before .found .given .0 .0) (r .kept .1 .1 .1 .1 .1 .1 .1 .0) (room {A = ℕ} 0 (g .0 .nodes)) (g .1))
+    let f = c .before .before .before .before in
+    let k = f .found .given .0 .0 in
+    let r = f .before .before .before .before in
+    let s = S r in
+    let g = found (now (s .args .from)) (now (s .args .to)) (now (s .args .cost)) (now (s .args .reward)) (s .args .nodes) 0 (omega arith)
+    (replicate 2048 (pos 0)) (D r) (replicate 2048 0) (arcs r) (r .negative-cycle .result) (r .negative-cycle .ensures) k (f .found .given .1) in
+    let h = first-hand (now (s .args .from)) (now (s .args .to)) (now (s .args .cost)) (now (s .args .reward)) (s .args .nodes)
+    (replicate 2048 (pos 0)) (D r) (replicate 2048 0) (arcs r) k (r .negative-cycle .kept .1 .1 .1 .1 .1 .1 .1 .0) (room {A = ℕ} 0 (g .0 .nodes)) (g .1) in
+    (record { graph = g .0; potential-room = omega arith; cycle-room = omega arith }, h)
 
 returns-3 : tie.Need-returns-3
 returns-3 c =
-    let s = c .before .before .before .before .before .before .before .before .before .before .before .before .before in
-    let r = c .before .before .before .before .negative-cycle in
-    ((λ w. no-graph (now (s .args .from)) (now (s .args .to)) (now (s .args .cost)) (now (s .args .reward)) (s .args .nodes) 0 (omega arith) (replicate 2048 (pos 0)) (r .last .1 .1 .1 .1 .1 .1 .0) (replicate 2048 0) (r .last .1 .1 .1 .1 .1 .1 .1 .0) (r .result) (r .ensures) (room (pos 0) (w .graph .nodes)) (room {A = ℕ} 0 (w .graph .nodes)) (c .enum-told .given .1) (w .graph)), record { potentials = refl; cycles = refl })
+    let r = c .before .before .before .before in
+    let s = S r in
+    let no = no-graph (now (s .args .from)) (now (s .args .to)) (now (s .args .cost)) (now (s .args .reward)) (s .args .nodes) 0 (omega arith)
+    (replicate 2048 (pos 0)) (D r) (replicate 2048 0) (arcs r) (r .negative-cycle .result) (r .negative-cycle .ensures) in
+    ((λ w. no (room (pos 0) (w .graph .nodes)) (room {A = ℕ} 0 (w .graph .nodes)) (c .enum-told .given .1) (w .graph)), record { potentials = refl; cycles = refl })
 
 returns-4 : tie.Need-returns-4
 returns-4 c =
-    let s = c .before .before .before .before .before .before .before .before .before .before .before .before .before in
-    let r = c .before .before .before .before .negative-cycle in
-    let g = none (now (s .args .from)) (now (s .args .to)) (now (s .args .cost)) (now (s .args .reward)) (s .args .nodes) 0 (omega arith) (replicate 2048 (pos 0)) (r .last .1 .1 .1 .1 .1 .1 .0) (replicate 2048 0) (r .last .1 .1 .1 .1 .1 .1 .1 .0) (r .result) (r .ensures) (c .enum-told2 .given .1) in
-    (record { graph = g .0; potential-room = omega arith; cycle-room = omega arith }, acyclic (now (s .args .from)) (now (s .args .to)) _ (now (s .args .cost)) (now (s .args .reward)) (g .1 .none), record { potentials = refl; cycles = refl })
+    let r = c .before .before .before .before in
+    let s = S r in
+    let g = none (now (s .args .from)) (now (s .args .to)) (now (s .args .cost)) (now (s .args .reward)) (s .args .nodes) 0 (omega arith)
+    (replicate 2048 (pos 0)) (D r) (replicate 2048 0) (arcs r) (r .negative-cycle .result) (r .negative-cycle .ensures) (c .enum-told2 .given .1) in (
+      record { graph = g .0; potential-room = omega arith; cycle-room = omega arith },
+      acyclic (now (s .args .from)) (now (s .args .to)) _ (now (s .args .cost)) (now (s .args .reward)) (g .1 .none),
+      record { potentials = refl; cycles = refl },
+    )
 
 same-length : tie.Need-same-length
 same-length c = c .before .before .before .before .beyond .kept .1 .1 .1 .1 .1 .0

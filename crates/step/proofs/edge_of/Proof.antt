@@ -4,7 +4,7 @@ use borrow.Author.Needs.{needs}
 use native.Mathlib.Omega.{arith}
 use lib.ListN.{length}
 use Rattle.sheet.specs.Decoded.{blankEdge}
-use Rattle.step.proofs.SheetLaws.{any-default}
+use Rattle.integers.proofs.Lists.{any-default}
 use Rattle.step.proofs.edge_of.Statement.{statement}
 use Rattle.step.proofs.edge_of.Tie as tie
 

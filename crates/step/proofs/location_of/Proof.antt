@@ -4,7 +4,7 @@ use borrow.Author.Needs.{needs}
 use native.Mathlib.Omega.{arith}
 use lib.ListN.{length, List·getD-eq-default}
 use Rattle.sheet.specs.Decoded.{blankLocation}
-use Rattle.step.proofs.SheetLaws.{any-default}
+use Rattle.integers.proofs.Lists.{any-default}
 use Rattle.step.proofs.location_of.Statement.{statement}
 use Rattle.step.proofs.location_of.Tie as tie
 

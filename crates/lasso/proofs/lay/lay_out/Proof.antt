@@ -3,13 +3,34 @@ use mathlib.Core.Path.{refl, subst}
 use Prim.Native.Nat.{ℕ, _-_}
 use lib.ListN.{length}
 use lib.Seq.{slice}
-use Rattle.walks.specs.Lasso.{Stem}
+use Rattle.walks.specs.Lasso.{Tree, Stem}
 use Rattle.lasso.proofs.Laying.{tree-of, laid-out}
 use borrow.Author.Needs.{needs}
 use native.Mathlib.Omega.{arith}
 use denote.Ref.{now}
 use Rattle.lasso.proofs.lay.lay_out.Statement.{statement}
 use Rattle.lasso.proofs.lay.lay_out.Tie as tie
+
+-- ---- the places, from the end to the start
+
+-- the three copies
+abbrev C2 : tie.After-slice-known4 → tie.After-copy2
+C2 c = c .before .before .before .before .before .before
+
+abbrev C1 : tie.After-copy2 → tie.After-copy
+C1 c = c .before .before .before .before .before
+
+abbrev H : tie.After-copy → tie.After-stem
+H c = c .before .before .before .before .before
+
+abbrev E : tie.After-node → tie.After-first
+E c = c .before .before .before
+
+abbrev S : tie.After-first → tie.Start
+S c = c .before .before .before .before .before .before
+
+abbrev tree : (c : tie.After-first) → Tree (now (S c .args .from)) (now (S c .args .tree)) (S c .args .nodes)
+tree c = tree-of (now (S c .args .from)) (now (S c .args .to)) (now (S c .args .tree)) (now (S c .args .cycle)) _ _ _ (S c .pre)
 
 first-requires : tie.Need-first-requires
 first-requires c κs =
@@ -23,15 +44,16 @@ mul-node : tie.Need-mul-node
 mul-node c = search needs
 
 shared-slice-read-node : tie.Need-shared-slice-read-node
-shared-slice-read-node c = omega (arith, c .before .before .first .ensures .0, c .before .before .before .before .before .before .before .before .pre .cycle-room)
+shared-slice-read-node c = let f = c .before .before in omega (arith, f .first .ensures .0, S f .pre .cycle-room)
 
 node-requires : tie.Need-node-requires
-node-requires c κs = c .before .before .before .before .before .before .before .before .pre .cycle-arcs (c .before .before .first .result) (c .before .before .first .ensures .0) .arc
+node-requires c κs = let f = c .before .before in S f .pre .cycle-arcs (f .first .result) (f .first .ensures .0) .arc
 
 stem-requires : tie.Need-stem-requires
 stem-requires c κs =
-    let s = c .before .before .before .before .before .before .before .before .before in
-    (tree-of (now (s .args .from)) (now (s .args .to)) (now (s .args .tree)) (now (s .args .cycle)) _ _ _ (s .pre), (rw (c .node .ensures) (s .pre .cycle-arcs (c .before .before .before .first .result) (c .before .before .before .first .ensures .0) .source), (s .pre .tree-room, omega (arith, s .pre .few))))
+    let f = E c in
+    let w = S f .pre in
+    (tree f, (rw (c .node .ensures) (w .cycle-arcs (f .first .result) (f .first .ensures .0) .source), (w .tree-room, omega (arith, w .few))))
 
 sub-s : tie.Need-sub-s
 sub-s c = search needs
@@ -83,14 +105,18 @@ same-length c = search needs
 
 returns : tie.Need-returns
 returns c =
-    let s = c .before .before .before .before .before .before .before .before .before .before .before .before .before .before .before .before .before .before .before .before .before .before .before .before .before .before in
-    let f = c .before .before .before .before .before .before .before .before .before .before .before .before .before .before .before .before .before .before .before .before .first in
-    let t = c .before .before .before .before .before .before .before .before .before .before .before .before .before .before .before .before .stem in
-    laid-out (now (s .args .from)) (now (s .args .to)) (now (s .args .cycle)) (t .last .1 .1 .1 .0) (now (s .args .arcs)) (c .before .before .before .before .before .before .before .before .before .before .before .copy .last .1 .1 .0) (c .before .before .before .before .before .before .copy2 .last .1 .1 .0) (c .before .before .copy3 .last .1 .1 .0)
-    (s .args .nodes) (s .args .k) (t .result) (f .result) (2048 - t .result) (t .kept .1 .1 .1 .0) (t .ensures .0) (omega (arith, t .ensures .1 .0)) refl
-    (f .ensures .0) (s .pre .cycle-room) (s .pre .arcs-room) (f .ensures .1)
-    (subst (λ (h : ℕ). Stem (now (s .args .from)) (now (s .args .to)) (length (now (s .args .from))) 0 (slice (t .result) (length (t .last .1 .1 .1 .0)) (t .last .1 .1 .1 .0)) h) (c .before .before .before .before .before .before .before .before .before .before .before .before .before .before .before .before .before .node .ensures) (t .ensures .1 .1 (tree-of (now (s .args .from)) (now (s .args .to)) (now (s .args .tree)) (now (s .args .cycle)) _ _ _ (s .pre))))
-    (c .before .before .before .before .before .before .before .before .before .before .before .copy .ensures) (c .before .before .before .before .before .before .copy2 .ensures) (c .before .before .copy3 .ensures)
+    let copy3 = c .before .before .copy3 in
+    let copy2 = C2 c .copy2 in
+    let copy1 = C1 (C2 c) .copy in
+    let h = H (C1 (C2 c)) in
+    let t = h .stem in
+    let f = E (h .before) in
+    let s = S f in
+    let order = t .last .1 .1 .1 .0 in
+    let x = subst (λ (y : ℕ). Stem (now (s .args .from)) (now (s .args .to)) (length (now (s .args .from))) 0 (slice (t .result) (length order) order) y) (h .before .node .ensures) (t .ensures .1 .1 (tree f)) in
+    laid-out (now (s .args .from)) (now (s .args .to)) (now (s .args .cycle)) order (now (s .args .arcs)) (copy1 .last .1 .1 .0) (copy2 .last .1 .1 .0) (copy3 .last .1 .1 .0)
+    (s .args .nodes) (s .args .k) (t .result) (f .first .result) (2048 - t .result) (t .kept .1 .1 .1 .0) (t .ensures .0) (omega (arith, t .ensures .1 .0)) refl
+    (f .first .ensures .0) (s .pre .cycle-room) (s .pre .arcs-room) (f .first .ensures .1) x (copy1 .ensures) (copy2 .ensures) (copy3 .ensures)
 
 pub lay-out-spec : {M : Type 1} → statement M
 lay-out-spec =

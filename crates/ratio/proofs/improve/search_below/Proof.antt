@@ -1,6 +1,7 @@
 -- The search at the ratio of the cycle in hand.
 use mathlib.Core.Path.{_≡_, ap, _∙_}
-use Prim.Native.Nat.{_≤_}
+use mathlib.Core.List.{List}
+use Prim.Native.Nat.{ℕ, _≤_}
 use borrow.Author.Needs.{needs}
 use native.Mathlib.Omega.{arith}
 use denote.Ref.{now}
@@ -23,15 +24,18 @@ S c = c .before .before .before .before .before .before
 abbrev R : tie.After-negative-cycle → tie.After-fraction-of
 R c = c .before .before .before .before
 
+-- the potentials and the cycle as the search leaves them
+abbrev D : tie.After-negative-cycle → List ℤ
+D c = c .negative-cycle .last .1 .1 .1 .1 .1 .1 .0
+
+abbrev hand : tie.After-negative-cycle → List ℕ
+hand c = c .negative-cycle .last .1 .1 .1 .1 .1 .1 .1 .0
+
 p-of : (c : tie.After-fraction-of) → natAbs (c .fraction-of .result .p) ≤ 20480000
-p-of c = let s = S c in
-    p-small (now (s .args .from)) (now (s .args .to)) (now (s .args .cost)) (now (s .args .reward)) (s .args .nodes) _ _ (s .pre .0) (now (s .args .hand)) (s .args .k) (s .pre .1)
-    (c .fraction-of .result .p) (c .fraction-of .result .q) (c .fraction-of .ensures)
+p-of c = p-small (S c .pre .0) (S c .pre .1) (c .fraction-of .ensures)
 
 q-of : (c : tie.After-fraction-of) → c .fraction-of .result .q ≤ 20480000
-q-of c = let s = S c in
-    q-small (now (s .args .from)) (now (s .args .to)) (now (s .args .cost)) (now (s .args .reward)) (s .args .nodes) _ _ (s .pre .0) (now (s .args .hand)) (s .args .k) (s .pre .1)
-    (c .fraction-of .result .p) (c .fraction-of .result .q) (c .fraction-of .ensures)
+q-of c = q-small (S c .pre .0) (S c .pre .1) (c .fraction-of .ensures)
 
 fits-p : (c : tie.After-fraction-of) → SFits w64 (c .fraction-of .result .p)
 fits-p c = small _ 20480001 (omega (arith, p-of c)) (omega arith)
@@ -46,17 +50,15 @@ neg-is c = let p = c .fraction-of .result .p in
 
 -- what the search answered, at the ratio
 found-is : (c : tie.After-negative-cycle) → Answered (now (S (R c) .args .from)) (now (S (R c) .args .to)) (now (S (R c) .args .cost)) (now (S (R c) .args .reward))
-    (pos (R c .fraction-of .result .q)) (negℤ (R c .fraction-of .result .p)) (pos 0) (S (R c) .args .nodes) (now (S (R c) .args .potential)) (c .negative-cycle .last .1 .1 .1 .1 .1 .1 .0)
-    (now (S (R c) .args .hand)) (c .negative-cycle .last .1 .1 .1 .1 .1 .1 .1 .0) (c .negative-cycle .result)
+    (pos (R c .fraction-of .result .q)) (negℤ (R c .fraction-of .result .p)) (pos 0) (S (R c) .args .nodes) (now (S (R c) .args .potential)) (D c)
+    (now (S (R c) .args .hand)) (hand c) (c .negative-cycle .result)
 found-is c = let s = S (R c) in let f = R c .fraction-of .result in
     coded (now (s .args .from)) (now (s .args .to)) (now (s .args .cost)) (now (s .args .reward)) (f .p) (f .q) (s .args .nodes) (now (s .args .potential))
-    (c .negative-cycle .last .1 .1 .1 .1 .1 .1 .0) (now (s .args .hand)) (c .negative-cycle .last .1 .1 .1 .1 .1 .1 .1 .0) (c .negative-cycle .result)
+    (D c) (now (s .args .hand)) (hand c) (c .negative-cycle .result)
     (toZ-pos w64 (f .q) (omega (arith, q-of (R c)))) (back (neg-is (R c)) (fits-neg (R c))) (c .negative-cycle .ensures)
 
 fraction-of-requires : tie.Need-fraction-of-requires
-fraction-of-requires c κs =
-    let s = c .before .before .before .before .before in
-    summed (now (s .args .from)) (now (s .args .to)) (now (s .args .cost)) (now (s .args .reward)) (s .args .nodes) _ _ (s .pre .0) (now (s .args .hand)) (s .args .k) (s .pre .1)
+fraction-of-requires c κs = let s = c .before .before .before .before .before in summed (s .pre .0) (s .pre .1)
 
 cast-t17 : tie.Need-cast-t17
 cast-t17 c = small _ 20480001 (omega (arith, q-of (c .before))) (omega arith)
@@ -84,10 +86,10 @@ same-length-2 c = search needs
 
 returns : tie.Need-returns
 returns c =
-    let s = c .before .before .before .before .before .before .before .before .before .before .before .before .before .before .before in
-    let f = c .before .before .before .before .before .before .before .before .before .fraction-of in
-    let r = c .before .before .before .before .before .negative-cycle in
-    never (now (s .args .from)) (now (s .args .to)) (now (s .args .cost)) (now (s .args .reward)) (s .args .nodes) _ _ (s .pre .0) (now (s .args .hand)) (s .args .k) (s .pre .1) (f .result .p) (f .result .q) (f .ensures) (now (s .args .potential)) (r .last .1 .1 .1 .1 .1 .1 .0) (r .last .1 .1 .1 .1 .1 .1 .1 .0) (s .pre .0 .formed .potential-room) (r .result) (found-is (c .before .before .before .before .before)) (c .enum-told .given .1)
+    let r = c .before .before .before .before .before in
+    let f = R r .fraction-of in
+    let s = S (R r) in
+    never (s .pre .0) (s .pre .1) (f .ensures) (now (s .args .potential)) (D r) (hand r) (s .pre .0 .formed .potential-room) (r .negative-cycle .result) (found-is r) (c .enum-told .given .1)
 
 same-length-3 : tie.Need-same-length-3
 same-length-3 c = search needs
@@ -97,10 +99,11 @@ same-length-4 c = search needs
 
 returns-2 : tie.Need-returns-2
 returns-2 c =
-    let s = c .before .before .before .before .before .before .before .before .before .before .before .before .before .before .before .before in
-    let f = c .before .before .before .before .before .before .before .before .before .before .fraction-of in
-    let r = c .before .before .before .before .before .before .negative-cycle in
-    better (now (s .args .from)) (now (s .args .to)) (now (s .args .cost)) (now (s .args .reward)) (s .args .nodes) _ _ (s .pre .0) (now (s .args .hand)) (s .args .k) (s .pre .1) (f .result .p) (f .result .q) (f .ensures) (now (s .args .potential)) (r .last .1 .1 .1 .1 .1 .1 .0) (r .last .1 .1 .1 .1 .1 .1 .1 .0) (s .pre .0 .formed .potential-room) (r .result) (found-is (c .before .before .before .before .before .before)) (c .before .found .given .0 .0) (r .kept .1 .1 .1 .1 .1 .1 .1 .0) (c .before .found .given .1)
+    let r = c .before .before .before .before .before .before in
+    let f = R r .fraction-of in
+    let s = S (R r) in
+    better (s .pre .0) (s .pre .1) (f .ensures) (now (s .args .potential)) (D r) (hand r) (s .pre .0 .formed .potential-room) (r .negative-cycle .result) (found-is r) (c .before .found .given .0 .0)
+    (r .negative-cycle .kept .1 .1 .1 .1 .1 .1 .1 .0) (c .before .found .given .1)
 
 same-length-5 : tie.Need-same-length-5
 same-length-5 c = search needs
@@ -110,12 +113,11 @@ same-length-6 c = search needs
 
 returns-3 : tie.Need-returns-3
 returns-3 c =
-    let s = c .before .before .before .before .before .before .before .before .before .before .before .before .before .before .before in
-    let f = c .before .before .before .before .before .before .before .before .before .fraction-of in
-    let r = c .before .before .before .before .before .negative-cycle in
-    again-settled (now (s .args .from)) (now (s .args .to)) (now (s .args .cost)) (now (s .args .reward)) (s .args .nodes) (now (s .args .potential))
-    (r .last .1 .1 .1 .1 .1 .1 .0) (r .last .1 .1 .1 .1 .1 .1 .1 .0) (f .result .p) (f .result .q) (s .args .k) (fits-p (c .before .before .before .before .before .before .before .before .before))
-    (done (now (s .args .from)) (now (s .args .to)) (now (s .args .cost)) (now (s .args .reward)) (s .args .nodes) _ _ (s .pre .0) (now (s .args .hand)) (s .args .k) (s .pre .1) (f .result .p) (f .result .q) (f .ensures) (now (s .args .potential)) (r .last .1 .1 .1 .1 .1 .1 .0) (r .last .1 .1 .1 .1 .1 .1 .1 .0) (s .pre .0 .formed .potential-room) (r .result) (found-is (c .before .before .before .before .before)) (c .enum-told2 .given .1))
+    let r = c .before .before .before .before .before in
+    let f = R r .fraction-of in
+    let s = S (R r) in
+    again-settled (fits-p (R r))
+    (done (s .pre .0) (s .pre .1) (f .ensures) (now (s .args .potential)) (D r) (hand r) (s .pre .0 .formed .potential-room) (r .negative-cycle .result) (found-is r) (c .enum-told2 .given .1))
 
 pub search-below-spec : {M : Type 1} → statement M
 search-below-spec =

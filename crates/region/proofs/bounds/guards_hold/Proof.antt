@@ -1,29 +1,34 @@
 -- The guards of the clocks passed hold.
 use borrow.Author.Tests.{not-true, not-false}
-use lib.ListN.{length, getD, take}
-use mathlib.Core.Path.{_≡_, sym, ap, _∙_}
-use mathlib.Core.Bool.{true}
-use mathlib.Core.List.{zipWith}
-use Prim.Native.Nat.{_-_, _≤_}
+use lib.ListN.{getD, take}
+use mathlib.Core.Path.{_≡_, sym}
+use mathlib.Core.Bool.{Bool, true}
+use mathlib.Core.List.{List, zipWith}
+use Prim.Native.Nat.{ℕ, _-_, _≤_}
 use native.Mathlib.Omega.{arith}
 use borrow.Author.Needs.{needs}
 use Rattle.automaton.specs.Tests.{every}
 use Rattle.automaton.specs.Bounds.{interval}
 use Rattle.region.specs.Arrays.{guardHolds, guardsIn}
-use Rattle.region.proofs.ClockLaws.{every-none, every-more, every-fails, every-all, zip-at, zip-long}
+use Rattle.region.proofs.ClockLaws.{every-none, every-all, clock-more, clock-fails}
 use Rattle.region.proofs.bounds.guards_hold.Statement.{statement}
 use Rattle.region.proofs.bounds.guards_hold.Tie as tie
 
+-- what is asked of a clock, by its number and its interval
+abbrev asks : List ℕ → List ℕ → ℕ → ℕ → Bool
+asks lower upper i x = guardHolds (getD lower i 0) (getD upper i 0) x
+
 abbrev Inv-loop : tie.InvT-loop
-Inv-loop clocks region lower upper j₀ j = (j ≤ clocks) × (every (λ i x. guardHolds (getD lower i 0) (getD upper i 0) x) (take j (zipWith interval (region .whole) (region .class))) ≡ true)
+Inv-loop clocks region lower upper j₀ j = (j ≤ clocks) × (every (asks lower upper) (take j (zipWith interval (region .whole) (region .class))) ≡ true)
 
 abbrev μ-loop : tie.MeasureT-loop
 μ-loop clocks region lower upper j₀ j = clocks - j
 
+abbrev L : tie.After-guard-holds Inv-loop μ-loop → tie.At-loop Inv-loop μ-loop
+L c = c .before .before .before .before .before
+
 loop-holds : tie.Need-loop-holds Inv-loop μ-loop
-loop-holds c =
-    let args = c .args in
-    (search needs, every-none (λ i x. guardHolds (getD (args .t2) i 0) (getD (args .t3) i 0) x) (zipWith interval (args .t1 .whole) (args .t1 .class)))
+loop-holds c = (search needs, every-none (asks (c .args .t2) (c .args .t3)) (zipWith interval (c .args .t1 .whole) (c .args .t1 .class)))
 
 array-read-guard-holds : tie.Need-array-read-guard-holds Inv-loop μ-loop
 array-read-guard-holds c = search needs
@@ -46,16 +51,11 @@ guard-holds-requires c κs = search needs
 returns : tie.Need-returns Inv-loop μ-loop
 unfolding guardsIn
 returns c =
-    let args = c .before .before .before .before .before .before .before .args in
-    let loop = c .before .before .before .before .before .before .loop in
-    let interval-of = c .before .before .interval-of in
-    let guard-holds = c .before .guard-holds in
-    let w : length (args .t1 .whole) ≡ 3 = search needs in
-    let k : length (args .t1 .class) ≡ 3 = search needs in
-    let here = zip-at interval (args .t1 .whole) (args .t1 .class) (loop .j) (omega arith) (omega arith) in
-    let long = zip-long interval (args .t1 .whole) (args .t1 .class) 3 w k in
-    sym (every-fails (λ i x. guardHolds (getD (args .t2) i 0) (getD (args .t3) i 0) x) (zipWith interval (args .t1 .whole) (args .t1 .class)) (args .clocks) (loop .j) (omega arith) (omega arith)
-    (ap (guardHolds (getD (args .t2) (loop .j) 0) (getD (args .t3) (loop .j) 0)) (here ∙ sym (interval-of .ensures)) ∙ sym (guard-holds .ensures) ∙ not-true (guard-holds .result) (c .if1 .taken)))
+    let t = c .before in
+    let l = L t in
+    let s = l .before in
+    clock-fails (asks (s .args .t2) (s .args .t3)) (s .args .t1 .whole) (s .args .t1 .class) (search needs) (search needs) (l .loop .j) (omega arith) (t .before .interval-of .ensures) (t .guard-holds .ensures)
+    (s .args .clocks) (omega arith) (not-true (t .guard-holds .result) (c .if1 .taken))
 
 add-j : tie.Need-add-j Inv-loop μ-loop
 add-j c = search needs
@@ -65,26 +65,20 @@ loop-less c = search needs
 
 loop-again : tie.Need-loop-again Inv-loop μ-loop
 loop-again c =
-    let args = c .before .before .before .before .before .before .before .args in
-    let loop = c .before .before .before .before .before .before .loop in
-    let interval-of = c .before .before .interval-of in
-    let guard-holds = c .before .guard-holds in
-    let w : length (args .t1 .whole) ≡ 3 = search needs in
-    let k : length (args .t1 .class) ≡ 3 = search needs in
-    let here = zip-at interval (args .t1 .whole) (args .t1 .class) (loop .j) (omega arith) (omega arith) in
-    let long = zip-long interval (args .t1 .whole) (args .t1 .class) 3 w k in (
+    let t = c .before in
+    let l = L t in
+    let s = l .before in (
       search needs,
-      every-more (λ i x. guardHolds (getD (args .t2) i 0) (getD (args .t3) i 0) x) (zipWith interval (args .t1 .whole) (args .t1 .class)) (loop .j) (omega arith) (loop .inv .1)
-          (ap (guardHolds (getD (args .t2) (loop .j) 0) (getD (args .t3) (loop .j) 0)) (here ∙ sym (interval-of .ensures)) ∙ sym (guard-holds .ensures) ∙ not-false (guard-holds .result) (c .if1 .left)),
+      clock-more (asks (s .args .t2) (s .args .t3)) (s .args .t1 .whole) (s .args .t1 .class) (search needs) (search needs) (l .loop .j) (omega arith) (t .before .interval-of .ensures) (t .guard-holds .ensures)
+          (l .loop .inv .1) (not-false (t .guard-holds .result) (c .if1 .left)),
     )
 
 returns-2 : tie.Need-returns-2 Inv-loop μ-loop
 unfolding guardsIn
 returns-2 c =
-    let args = c .before .before .args in
-    let loop = c .before .loop in
-    sym
-    (every-all (λ i x. guardHolds (getD (args .t2) i 0) (getD (args .t3) i 0) x) (zipWith interval (args .t1 .whole) (args .t1 .class)) (args .clocks) (loop .j) (search needs) (search needs) (loop .inv .1))
+    let l = c .before in
+    let s = l .before in
+    sym (every-all (asks (s .args .t2) (s .args .t3)) _ (s .args .clocks) (l .loop .j) (search needs) (search needs) (l .loop .inv .1))
 
 pub guards-hold-spec : {M : Type 1} → statement M
 guards-hold-spec =

@@ -1,27 +1,34 @@
 -- The clocks passed lie within their upper bytes.
 use borrow.Author.Tests.{not-true, not-false}
-use lib.ListN.{length, getD, take}
-use mathlib.Core.Path.{_≡_, sym, ap, _∙_}
-use mathlib.Core.Bool.{true}
-use mathlib.Core.List.{zipWith}
-use Prim.Native.Nat.{_-_, _≤_}
+use lib.ListN.{getD, take}
+use mathlib.Core.Path.{_≡_, sym}
+use mathlib.Core.Bool.{Bool, true}
+use mathlib.Core.List.{List, zipWith}
+use Prim.Native.Nat.{ℕ, _-_, _≤_}
 use native.Mathlib.Omega.{arith}
 use borrow.Author.Needs.{needs}
 use Rattle.automaton.specs.Tests.{every}
 use Rattle.automaton.specs.Bounds.{interval, upperHolds}
 use Rattle.region.specs.Arrays.{boundsIn}
-use Rattle.region.proofs.ClockLaws.{every-none, every-more, every-fails, every-all, zip-at, zip-long}
+use Rattle.region.proofs.ClockLaws.{every-none, every-all, clock-more, clock-fails}
 use Rattle.region.proofs.bounds.inside.Statement.{statement}
 use Rattle.region.proofs.bounds.inside.Tie as tie
 
+-- what is asked of a clock, by its number and its interval
+abbrev asks : List ℕ → ℕ → ℕ → Bool
+asks upper i x = upperHolds (getD upper i 0) x
+
 abbrev Inv-loop : tie.InvT-loop
-Inv-loop clocks region upper j₀ j = (j ≤ clocks) × (every (λ i x. upperHolds (getD upper i 0) x) (take j (zipWith interval (region .whole) (region .class))) ≡ true)
+Inv-loop clocks region upper j₀ j = (j ≤ clocks) × (every (asks upper) (take j (zipWith interval (region .whole) (region .class))) ≡ true)
 
 abbrev μ-loop : tie.MeasureT-loop
 μ-loop clocks region upper j₀ j = clocks - j
 
+abbrev L : tie.After-upper-holds Inv-loop μ-loop → tie.At-loop Inv-loop μ-loop
+L c = c .before .before .before .before .before
+
 loop-holds : tie.Need-loop-holds Inv-loop μ-loop
-loop-holds c = (search needs, every-none (λ i x. upperHolds (getD (c .args .t2) i 0) x) (zipWith interval (c .args .t1 .whole) (c .args .t1 .class)))
+loop-holds c = (search needs, every-none (asks (c .args .t2)) (zipWith interval (c .args .t1 .whole) (c .args .t1 .class)))
 
 array-read-upper-holds : tie.Need-array-read-upper-holds Inv-loop μ-loop
 array-read-upper-holds c = search needs
@@ -41,16 +48,11 @@ upper-holds-requires c κs = search needs
 returns : tie.Need-returns Inv-loop μ-loop
 unfolding boundsIn
 returns c =
-    let args = c .before .before .before .before .before .before .before .args in
-    let loop = c .before .before .before .before .before .before .loop in
-    let interval-of = c .before .before .interval-of in
-    let upper-holds = c .before .upper-holds in
-    let w : length (args .t1 .whole) ≡ 3 = search needs in
-    let k : length (args .t1 .class) ≡ 3 = search needs in
-    let here = zip-at interval (args .t1 .whole) (args .t1 .class) (loop .j) (omega arith) (omega arith) in
-    let long = zip-long interval (args .t1 .whole) (args .t1 .class) 3 w k in
-    sym (every-fails (λ i x. upperHolds (getD (args .t2) i 0) x) (zipWith interval (args .t1 .whole) (args .t1 .class)) (args .clocks) (loop .j) (omega arith) (omega arith)
-    (ap (upperHolds (getD (args .t2) (loop .j) 0)) (here ∙ sym (interval-of .ensures)) ∙ sym (upper-holds .ensures) ∙ not-true (upper-holds .result) (c .if1 .taken)))
+    let t = c .before in
+    let l = L t in
+    let s = l .before in
+    clock-fails (asks (s .args .t2)) (s .args .t1 .whole) (s .args .t1 .class) (search needs) (search needs) (l .loop .j) (omega arith) (t .before .interval-of .ensures) (t .upper-holds .ensures)
+    (s .args .clocks) (omega arith) (not-true (t .upper-holds .result) (c .if1 .taken))
 
 add-j : tie.Need-add-j Inv-loop μ-loop
 add-j c = search needs
@@ -60,26 +62,20 @@ loop-less c = search needs
 
 loop-again : tie.Need-loop-again Inv-loop μ-loop
 loop-again c =
-    let args = c .before .before .before .before .before .before .before .args in
-    let loop = c .before .before .before .before .before .before .loop in
-    let interval-of = c .before .before .interval-of in
-    let upper-holds = c .before .upper-holds in
-    let w : length (args .t1 .whole) ≡ 3 = search needs in
-    let k : length (args .t1 .class) ≡ 3 = search needs in
-    let here = zip-at interval (args .t1 .whole) (args .t1 .class) (loop .j) (omega arith) (omega arith) in
-    let long = zip-long interval (args .t1 .whole) (args .t1 .class) 3 w k in (
+    let t = c .before in
+    let l = L t in
+    let s = l .before in (
       search needs,
-      every-more (λ i x. upperHolds (getD (args .t2) i 0) x) (zipWith interval (args .t1 .whole) (args .t1 .class)) (loop .j) (omega arith) (loop .inv .1)
-          (ap (upperHolds (getD (args .t2) (loop .j) 0)) (here ∙ sym (interval-of .ensures)) ∙ sym (upper-holds .ensures) ∙ not-false (upper-holds .result) (c .if1 .left)),
+      clock-more (asks (s .args .t2)) (s .args .t1 .whole) (s .args .t1 .class) (search needs) (search needs) (l .loop .j) (omega arith) (t .before .interval-of .ensures) (t .upper-holds .ensures)
+          (l .loop .inv .1) (not-false (t .upper-holds .result) (c .if1 .left)),
     )
 
 returns-2 : tie.Need-returns-2 Inv-loop μ-loop
 unfolding boundsIn
 returns-2 c =
-    let args = c .before .before .args in
-    let loop = c .before .loop in
-    sym
-    (every-all (λ i x. upperHolds (getD (args .t2) i 0) x) (zipWith interval (args .t1 .whole) (args .t1 .class)) (args .clocks) (loop .j) (search needs) (search needs) (loop .inv .1))
+    let l = c .before in
+    let s = l .before in
+    sym (every-all (asks (s .args .t2)) _ (s .args .clocks) (l .loop .j) (search needs) (search needs) (l .loop .inv .1))
 
 pub inside-spec : {M : Type 1} → statement M
 inside-spec =
