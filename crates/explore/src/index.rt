@@ -1,24 +1,36 @@
 // The nodes found so far, and a sorted index of their numbers.
+ghost use mathlib.Core.Path.{_≡_};
 ghost use Prim.Native.Nat.{_+_, _<_, _≤_};
 ghost use lib.ListN.{length};
 ghost use Rattle.explore.specs.Index.{Rising, Place, Inserted, Index, Entered};
 
-// The first of the places below n whose number is at least x, or n.
+// d where v is below x, else 0, without a branch: half of the time it would be foreseen wrongly.
+fn if_below(v: u32, x: u32, d: usize) -> usize
+    requires { ⌜ d < 4294967296 ⌝ }
+    ensures { λ r. ⌜ (v < x → r ≡ d) ⌝ ∗ ⌜ (x ≤ v → r ≡ 0) ⌝ }
+{
+    let gap = std::num::wrapping_sub_u64(v as u64, x as u64);
+    d & ((gap >> 32) as usize)
+}
+
+// The first of the places below n whose number is at least x, or n: it is one of those from low to low + size.
 fn place(sorted: &[u32], n: usize, x: u32) -> usize
-    requires { ⌜ n ≤ length (now sorted) ⌝ ∗ ⌜ Rising (now sorted) n ⌝ }
+    requires { ⌜ n ≤ length (now sorted) ⌝ ∗ ⌜ n ≤ 2048 ⌝ ∗ ⌜ Rising (now sorted) n ⌝ }
     ensures { λ r. ⌜ Place (now (sorted .entry)) n x r ⌝ }
 {
     let mut low = 0;
-    let mut high = n;
-    while low < high {
-        let mid = low + (high - low) / 2;
-        if sorted[mid] < x {
-            low = mid + 1;
-        } else {
-            high = mid;
-        }
+    let mut size = n;
+    while 1 < size {
+        let half = size / 2;
+        let v = sorted[low + half];
+        low += if_below(v, x, half);
+        size -= half;
     }
-    low
+    if size == 0 {
+        return low;
+    }
+    let v = sorted[low];
+    low + if_below(v, x, 1)
 }
 
 // Puts x at place p; what stood from there to place n moves up by one.
