@@ -225,6 +225,9 @@ module _ (N K I N' K' I' : List ℕ) (n x p : ℕ) (g : Index N K I n) (w : Plac
   }
 
 -- ---- what `enter` comes to
+pub guessed : (N K I P : List ℕ) (n x m g : ℕ) → g < n → at N g ≡ x → Entered N K I P N K I P n x m g
+guessed N K I P n x m g h e = Entered.known record { below = h; is = e; nodes = refl; sorted = refl; order = refl; tree = refl }
+
 module _ (N K I P : List ℕ) (n x m p : ℕ) (g : Index N K I n) (w : Place K n x p) where
   pub stood : p < n → at K p ≡ x → Entered N K I P N K I P n x m (at I p)
   stood h e = Entered.known record {

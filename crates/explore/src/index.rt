@@ -47,7 +47,7 @@ fn insert(list: &mut [u32], n: usize, p: usize, x: u32)
     list[p] = x;
 }
 
-// The place of the number y among the n nodes found; a new one is added as node n, discovered by the arc m, if there is room.
+// The place of the number y among the n nodes found, which may be `guess`; a new one is added as node n, discovered by the arc m, if there is room.
 pub(crate) fn enter(
     nodes: &mut [u32],
     sorted: &mut [u32],
@@ -56,12 +56,19 @@ pub(crate) fn enter(
     n: usize,
     y: u32,
     m: usize,
+    guess: u16,
 ) -> usize
     requires { ⌜ Index (now nodes) (now sorted) (now order) n ⌝ ∗ ⌜ n ≤ 2048 ⌝ }
     requires { ⌜ 2048 ≤ length (now nodes) ⌝ ∗ ⌜ 2048 ≤ length (now sorted) ⌝ ∗ ⌜ 2048 ≤ length (now order) ⌝ ∗ ⌜ 2048 ≤ length (now tree) ⌝ }
     ensures { λ j. ⌜ Entered (now (nodes .entry)) (now (sorted .entry)) (now (order .entry)) (now (tree .entry))
         (now (nodes .exit)) (now (sorted .exit)) (now (order .exit)) (now (tree .exit)) n y m j ⌝ }
 {
+    let g = guess as usize;
+    if g < n {
+        if nodes[g] == y {
+            return g;
+        }
+    }
     let p = place(sorted, n, y);
     if p < n {
         if sorted[p] == y {
