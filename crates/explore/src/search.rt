@@ -29,6 +29,7 @@ pub(crate) fn search(
 {
     let written = sheet.edge;
     let edges = crate::steps::records(written);
+    let sources = crate::steps::sources(edges);
     let listed = sheet.location;
     let locations = crate::steps::by_byte(listed);
     nodes[0] = 0;
@@ -46,7 +47,7 @@ pub(crate) fn search(
         let edge = edges[j];
         let location = region::location_in(x);
         if crate::steps::elsewhere(k, edge.source, location) {
-            t += 1;
+            t += crate::steps::away(&sources, k, location);
             continue;
         }
         let e = crate::steps::place(edge.target);
