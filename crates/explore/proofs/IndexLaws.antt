@@ -1,13 +1,28 @@
 -- What a look-up and an insertion do to the index.
 use mathlib.Core.Path.{_≡_, refl, sym, ap, subst, _∙_}
 use mathlib.Core.List.{List}
-use Prim.Native.Nat.{ℕ, _+_, _-_, _≤_, _<_}
+use Prim.Native.Nat.{ℕ, _+_, _-_, _/_, _%_, _≤_, _<_}
 use native.Mathlib.Omega.{arith}
+use native.Mathlib.Nat.{mod-eq-of-lt}
 use native.Mathlib.Decide.{ℕ-discrete, decLt}
+use lib.Bits.{bitAnd, and-mask, and-zero-r}
 use lib.ListN.{length, set, length-set, drop}
 use lib.Seq.{getD-set-same, getD-set-other, drop-set-lt}
 use Rattle.walks.specs.Walk.{at}
 use Rattle.explore.specs.Index.{Rising, Place, Inserted, Stands, Index, Entered}
+
+-- ---- the difference of v and x modulo 2 ^ 64 has ones from bit 32 on where v is below x, and zeros else
+module _ (v x d gap : ℕ) (f : v < 4294967296) (g : x < 4294967296) (w : gap < 18446744073709551616) (e : (gap + x) % 18446744073709551616 ≡ v)
+    (h : d < 4294967296) where
+  pub gap-ones : v < x → bitAnd d (gap / 4294967296) ≡ d
+  gap-ones l =
+      let q : gap / 4294967296 ≡ 4294967295 = omega arith in
+      ap (bitAnd d) q ∙ and-mask d 32 ∙ mod-eq-of-lt h
+
+  pub gap-zeros : x ≤ v → bitAnd d (gap / 4294967296) ≡ 0
+  gap-zeros l =
+      let q : gap / 4294967296 ≡ 0 = omega arith in
+      ap (bitAnd d) q ∙ and-zero-r d
 
 -- ---- the search: all before low is below x, all from high on is not
 pub record Bracket (K : List ℕ) (n x low high : ℕ) : Type 0 where
@@ -19,7 +34,7 @@ pub record Bracket (K : List ℕ) (n x low high : ℕ) : Type 0 where
 up-to : (K : List ℕ) (n a b : ℕ) → Rising K n → a ≤ b → b < n → at K a ≤ at K b
 up-to K n a b g h l = elim (ℕ-discrete a b) [ yes p ↦ rw p (omega arith) | no q ↦ omega (arith, g .rises a b (omega arith) l) ]
 
-pub bracket-start : (K : List ℕ) (n x : ℕ) → Bracket K n x 0 n
+pub bracket-start : (K : List ℕ) (n x : ℕ) → Bracket K n x 0 (0 + n)
 bracket-start K n x = record {
   order = omega arith;
   within = omega arith;
@@ -27,29 +42,53 @@ bracket-start K n x = record {
   above = λ a h l. absurd (omega arith);
 }
 
-pub bracket-up : (K : List ℕ) (n x low high mid : ℕ) → Rising K n → Bracket K n x low high → mid < high → at K mid < x → Bracket K n x (mid + 1) high
-bracket-up K n x low high mid g b h l = record {
-  order = omega arith;
-  within = b .within;
-  below = λ a k. omega (arith, up-to K n a mid g (omega arith) (omega (arith, b .within)));
-  above = b .above;
-}
+-- the upper half or the lower one, which may be longer by one
+pub bracket-half : (K : List ℕ) (n x low size half r : ℕ) → Rising K n → Bracket K n x low (low + size) → half + half ≤ size → 0 < half
+    → (at K (low + half) < x → r ≡ half) → (x ≤ at K (low + half) → r ≡ 0) → Bracket K n x (low + r) (low + r + (size - half))
+bracket-half K n x low size half r g b h l p q = elim (decLt (at K (low + half)) x) [
+  | yes u ↦
+      let e : r ≡ half = p u in
+      record {
+        order = omega arith;
+        within = omega (arith, b .within);
+        below = λ a k. omega (arith, up-to K n a (low + half) g (omega arith) (omega (arith, b .within)));
+        above = λ a k m. b .above a (omega arith) m;
+      }
+  | no u ↦
+      let e : r ≡ 0 = q (omega arith) in
+      record {
+        order = omega arith;
+        within = omega (arith, b .within);
+        below = λ a k. b .below a (omega arith);
+        above = λ a k m. omega (arith, up-to K n (low + half) a g (omega arith) m);
+      }
+]
 
-pub bracket-down : (K : List ℕ) (n x low high mid : ℕ) → Rising K n → Bracket K n x low high → low ≤ mid → mid < high → x ≤ at K mid
-    → Bracket K n x low mid
-bracket-down K n x low high mid g b o h l = record {
-  order = o;
+pub bracket-end : (K : List ℕ) (n x low size : ℕ) → Bracket K n x low (low + size) → size ≡ 0 → Place K n x low
+bracket-end K n x low size b h = record {
   within = omega (arith, b .within);
-  below = b .below;
-  above = λ a k m. omega (arith, up-to K n mid a g k m);
-}
-
-pub bracket-end : (K : List ℕ) (n x low high : ℕ) → Bracket K n x low high → high ≤ low → Place K n x low
-bracket-end K n x low high b h = record {
-  within = omega (arith, b .order, b .within);
   below = b .below;
   above = λ a k l. b .above a (omega arith) l;
 }
+
+pub bracket-one : (K : List ℕ) (n x low size r : ℕ) → Rising K n → Bracket K n x low (low + size) → size ≡ 1 → (at K low < x → r ≡ 1)
+    → (x ≤ at K low → r ≡ 0) → Place K n x (low + r)
+bracket-one K n x low size r g b h p q = elim (decLt (at K low) x) [
+  | yes u ↦
+      let e : r ≡ 1 = p u in
+      record {
+        within = omega (arith, b .within);
+        below = λ a k. omega (arith, up-to K n a low g (omega arith) (omega (arith, b .within)));
+        above = λ a k m. b .above a (omega arith) m;
+      }
+  | no u ↦
+      let e : r ≡ 0 = q (omega arith) in
+      record {
+        within = omega (arith, b .within);
+        below = λ a k. b .below a (omega arith);
+        above = λ a k m. omega (arith, up-to K n low a g (omega arith) m);
+      }
+]
 
 -- ---- the shift: from i on, all has moved up
 pub record Shifted (L₀ L : List ℕ) (n p i : ℕ) : Type 0 where
@@ -186,6 +225,9 @@ module _ (N K I N' K' I' : List ℕ) (n x p : ℕ) (g : Index N K I n) (w : Plac
   }
 
 -- ---- what `enter` comes to
+pub guessed : (N K I P : List ℕ) (n x m g : ℕ) → g < n → at N g ≡ x → Entered N K I P N K I P n x m g
+guessed N K I P n x m g h e = Entered.known record { below = h; is = e; nodes = refl; sorted = refl; order = refl; tree = refl }
+
 module _ (N K I P : List ℕ) (n x m p : ℕ) (g : Index N K I n) (w : Place K n x p) where
   pub stood : p < n → at K p ≡ x → Entered N K I P N K I P n x m (at I p)
   stood h e = Entered.known record {

@@ -3,7 +3,7 @@ use mathlib.Core.Path.{_≡_, refl, sym, ap, subst, _∙_}
 use mathlib.Core.Bool.{Bool, true, false, _&&_, not}
 use mathlib.Core.Option.{none}
 use mathlib.Core.List.{List}
-use Prim.Native.Nat.{ℕ, _+_, _≤_, _<_}
+use Prim.Native.Nat.{ℕ, _+_, _-_, _≤_, _<_}
 use native.Mathlib.Omega.{arith}
 use native.Mathlib.Decide.{ℕ-discrete, decLt}
 use borrow.Author.Tests.{le-leb, ltb-true, eq-eqb, ne-eqb}
@@ -21,7 +21,7 @@ use Rattle.nodes.specs.Decoded.{decodedMeaning, edgeIn, alone}
 use Rattle.region.specs.Answers.{answered, refused}
 use Rattle.region.specs.declared.Stepped.{Stepped}
 use Rattle.step.proofs.SheetLaws.{no-edge, edge-there, delay-there}
-use Rattle.explore.specs.Records.{Records}
+use Rattle.explore.specs.Records.{Records, Away}
 
 -- the first i entries of s stand in front of n entries, blank ones after them
 pub record Copied {A : Type 0} (blank : A) (s l : List A) (n i : ℕ) : Type 0 where
@@ -54,6 +54,39 @@ module _ {A : Type 0} (blank : A) (s : List A) (n : ℕ) where
     | no k ↦ g .behind j (omega arith) h ∙ sym (List·getD-eq-default s blank {n = j} (omega arith))
   ]
 
+-- ---- the first i sources
+pub record Sourced (edges : List Edge) (all : List ℕ) (i : ℕ) : Type 0 where
+  pub few : i ≤ 32
+  pub sized : length all ≡ 32
+  pub is : (j : ℕ) → j < i → getD all j 0 ≡ getD edges j blankEdge .source
+
+pub sourced-none : (edges : List Edge) → Sourced edges (replicate 32 0) 0
+sourced-none edges = record { few = omega arith; sized = length-replicate {A = ℕ} 32 0; is = λ j h. absurd (omega arith) }
+
+pub sourced-more : (edges : List Edge) (all : List ℕ) (i x : ℕ) → i < 32 → x ≡ getD edges i blankEdge .source → Sourced edges all i
+    → Sourced edges (set all i x) (i + 1)
+sourced-more edges all i x h e g = record {
+  few = omega arith;
+  sized = length-set all i x ∙ g .sized;
+  is = λ j k. elim (ℕ-discrete j i) [
+    | yes p ↦ subst (λ (y : ℕ). getD (set all i x) y 0 ≡ getD edges y blankEdge .source) (sym p) (getD-set-same all i x 0 (omega (arith, g .sized)) ∙ e)
+    | no q ↦ getD-set-other all i j x 0 q ∙ g .is j (omega arith)
+  ];
+}
+
+-- ---- edges of other locations
+module _ (l : List ℕ) (k here : ℕ) where
+  pub away-start : Away l k (k + 1) here
+  away-start = record { elsewhere = λ j p q. absurd (omega arith) }
+
+  pub away-more : (e : ℕ) → Away l k e here → (getD l e 0 ≡ here → ⊥) → Away l k (e + 1) here
+  away-more e a n = record {
+    elsewhere = λ j p q r. elim (ℕ-discrete j e) [ yes z ↦ n (ap (λ (y : ℕ). getD l y 0) (sym z) ∙ r) | no z ↦ a .elsewhere j p (omega arith) r ];
+  }
+
+  pub away-end : (e : ℕ) → k < e → Away l k e here → Away l k (k + (e - k)) here
+  away-end e h a = record { elsewhere = λ j p q. a .elsewhere j p (omega arith) }
+
 -- ---- by the records
 module _ (s : Sheet) (x k clocks count : ℕ) (edge : Edge) (target here : Location) (r : Records s x k clocks count edge target here) where
   abbrev Is : Stepped → Type 0
@@ -79,9 +112,12 @@ pub not-here : (s : Sheet) (x k : ℕ) → k < 32 → (edgeIn s k .source ≡ bi
 unfolding stepBy step edgeStep decodedMeaning nodeOf
 not-here s x k h n = simp (le-leb k 31 (omega arith), ne-eqb _ _ n, both-false)
 
+pub told-edge : (k : ℕ) (b r : Bool) → r ≡ (ltb k 32 && b) → r ≡ true → k < 32
+told-edge k b r e h = ltb-true k 32 (&&-left (ltb k 32) b (sym e ∙ h))
+
 pub told-elsewhere : (k a b : ℕ) (r : Bool) → r ≡ (ltb k 32 && not (eqb a b)) → r ≡ true → (k < 32) × (a ≡ b → ⊥)
 told-elsewhere k a b r e h = (
-  ltb-true k 32 (&&-left (ltb k 32) (not (eqb a b)) (sym e ∙ h)),
+  told-edge k (not (eqb a b)) r e h,
   λ p. not-true (eqb a b) (eq-eqb a b p) (&&-right (ltb k 32) (not (eqb a b)) (sym e ∙ h)),
 )
   where

@@ -1,6 +1,8 @@
 -- The records that a step needs.
 use mathlib.Core.Path.{_≡_}
-use Prim.Native.Nat.{ℕ, _≤_}
+use mathlib.Core.List.{List}
+use Prim.Native.Nat.{ℕ, _≤_, _<_}
+use lib.ListN.{getD}
 use Rattle.sheet.specs.declared.Edge.{Edge}
 use Rattle.sheet.specs.declared.Location.{Location}
 use Rattle.sheet.specs.declared.Sheet.{Sheet}
@@ -14,3 +16,7 @@ pub record Records (s : Sheet) (x k clocks count : ℕ) (edge : Edge) (target he
   pub edge-is : k ≤ 31 → edge ≡ edgeIn s k
   pub target-is : target ≡ locationIn s (edge .target)
   pub here-is : here ≡ locationIn s (bitsOf x 4 20)
+
+-- the edges after k and before e leave other locations
+pub record Away (sources : List ℕ) (k e here : ℕ) : Type 0 where
+  pub elsewhere : (j : ℕ) → k < j → j < e → getD sources j 0 ≡ here → ⊥

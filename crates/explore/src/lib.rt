@@ -8,6 +8,7 @@ ghost use Rattle.explore.specs.Buffers.{buffers, each};
 ghost use Rattle.explore.specs.Answer.{Answered};
 use sheet::Sheet;
 
+mod hints;
 mod index;
 mod search;
 mod steps;

@@ -29,11 +29,13 @@ pub(crate) fn search(
 {
     let written = sheet.edge;
     let edges = crate::steps::records(written);
+    let sources = crate::steps::sources(edges);
     let listed = sheet.location;
     let locations = crate::steps::by_byte(listed);
     nodes[0] = 0;
     sorted[0] = 0;
     order[0] = 0;
+    let mut hints = [0u16; 8192];
     let mut n = 1;
     let mut m = 0;
     let mut t = 0;
@@ -45,7 +47,7 @@ pub(crate) fn search(
         let edge = edges[j];
         let location = region::location_in(x);
         if crate::steps::elsewhere(k, edge.source, location) {
-            t += 1;
+            t += crate::steps::away(&sources, k, location);
             continue;
         }
         let e = crate::steps::place(edge.target);
@@ -53,6 +55,8 @@ pub(crate) fn search(
         let target = locations[e];
         let here = locations[l];
         let s = crate::steps::step_at(x, k, sheet.clocks, sheet.edges, edge, target, here);
+        let slot = crate::hints::slot(s.number);
+        let hint = hints[slot];
         let v = crate::turns::take_turn(
             nodes,
             sorted,
@@ -68,10 +72,12 @@ pub(crate) fn search(
             i,
             k,
             s,
+            hint,
         );
         let Turn::Go(a, b) = v else {
             return Outcome::TooMany;
         };
+        hints[slot] = crate::hints::renewed(hint, n, a);
         n = a;
         m = b;
         t += 1;

@@ -42,7 +42,7 @@ fn price(cost: &mut [i16], reward: &mut [u16], m: usize, c: i16, r: u16)
     reward[m] = r;
 }
 
-// Of n nodes and m arcs found so far: s is what the step with code k at node i answers.
+// Of n nodes and m arcs found so far: s is what the step with code k at node i answers, and guess a place that its node may have.
 pub(crate) fn take_turn(
     nodes: &mut [u32],
     sorted: &mut [u32],
@@ -58,6 +58,7 @@ pub(crate) fn take_turn(
     i: usize,
     k: usize,
     s: Stepped,
+    guess: u16,
 ) -> Turn
     requires { ⌜ LongEnough (buffers (now nodes) (now sorted) (now order) (now tree) (now from) (now to) (now code) (now cost) (now reward)) ⌝ }
     requires { ⌜ Index (now nodes) (now sorted) (now order) n ⌝ ∗ ⌜ n ≤ 2048 ⌝ ∗ ⌜ m < 69632 ⌝ ∗ ⌜ i < n ⌝ ∗ ⌜ k < 34 ⌝ }
@@ -71,7 +72,7 @@ pub(crate) fn take_turn(
     if s.refusal != 0 {
         return Turn::Go(n, m);
     }
-    let j = crate::index::enter(nodes, sorted, order, tree, n, s.number, m);
+    let j = crate::index::enter(nodes, sorted, order, tree, n, s.number, m, guess);
     if j == 2048 {
         return Turn::Full;
     }

@@ -5,23 +5,32 @@ use Prim.Native.Nat.{_<_}
 use native.Mathlib.Omega.{arith}
 use denote.Ref.{now}
 use Rattle.walks.specs.Walk.{at}
-use Rattle.explore.proofs.IndexLaws.{stood, filled, joins}
+use Rattle.explore.proofs.IndexLaws.{guessed, stood, filled, joins}
 use borrow.Author.Needs.{needs}
 use Rattle.explore.proofs.index.enter.Statement.{statement}
 use Rattle.explore.proofs.index.enter.Tie as tie
 
 -- y is not at the place found
-missing : (c : tie.Joined1) → let a = c .before in let s = a .before .before .before .before .before .before in a .place .result < s .args .n → at (now (s .args .sorted)) (a .place .result) ≡ s .args .y → ⊥
-missing c h e = ⊎-elim (λ t. t .2 .left e) (λ t. omega arith) (c .if1 .came)
-
-place-requires : tie.Need-place-requires
-place-requires c κs = search needs
+missing : (c : tie.Joined3) → let a = c .before in let s = a .before .before .before .before .before .before .before in a .place .result < s .args .n → at (now (s .args .sorted)) (a .place .result) ≡ s .args .y → ⊥
+missing c h e = ⊎-elim (λ t. t .2 .left e) (λ t. omega arith) (c .if3 .came)
 
 mul-if2 : tie.Need-mul-if2
 mul-if2 c = search needs
 
 slice-read-if2 : tie.Need-slice-read-if2
 slice-read-if2 c = search needs
+
+returns : tie.Need-returns
+returns c = guessed _ _ _ _ _ _ _ _ (c .before .before .if1 .taken) (c .if2 .taken)
+
+place-requires : tie.Need-place-requires
+place-requires c κs = search needs
+
+mul-if4 : tie.Need-mul-if4
+mul-if4 c = search needs
+
+slice-read-if4 : tie.Need-slice-read-if4
+slice-read-if4 c = search needs
 
 mul-result : tie.Need-mul-result
 mul-result c = search needs
@@ -31,20 +40,20 @@ slice-read-result c = search needs
 
 cast-result : tie.Need-cast-result
 cast-result c =
-    let s = c .before .before .before .before .before .before .before .before .before .before in
-    omega (arith, s .pre .0 .below (c .before .before .before .before .place .result) (c .before .before .before .if1 .taken), s .pre .1 .0)
+    let s = c .before .before .before .before .before .before .before .before .before .before .before in
+    omega (arith, s .pre .0 .below (c .before .before .before .before .place .result) (c .before .before .before .if3 .taken), s .pre .1 .0)
 
 same-length : tie.Need-same-length
 same-length c = search needs
 
-returns : tie.Need-returns
-returns c = let s = c .before .before .before .before .before .before .before .before .before .before in stood _ _ _ _ _ _ _ _ (s .pre .0) (c .before .before .before .before .place .ensures) (c .before .before .before .if1 .taken) (c .before .if2 .taken)
+returns-2 : tie.Need-returns-2
+returns-2 c = let s = c .before .before .before .before .before .before .before .before .before .before .before in stood _ _ _ _ _ _ _ _ (s .pre .0) (c .before .before .before .before .place .ensures) (c .before .before .before .if3 .taken) (c .before .if4 .taken)
 
 same-length-2 : tie.Need-same-length-2
 same-length-2 c = search needs
 
-returns-2 : tie.Need-returns-2
-returns-2 c = let s = c .before .before .before .before .before .before .before .before in filled _ _ _ _ _ _ _ _ (s .pre .0) (c .before .before .place .ensures) (missing (c .before)) (c .if3 .taken)
+returns-3 : tie.Need-returns-3
+returns-3 c = let s = c .before .before .before .before .before .before .before .before .before in filled _ _ _ _ _ _ _ _ (s .pre .0) (c .before .before .place .ensures) (missing (c .before)) (c .if5 .taken)
 
 mul-nodes : tie.Need-mul-nodes
 mul-nodes c = search needs
@@ -79,23 +88,26 @@ same-length-5 c = search needs
 same-length-6 : tie.Need-same-length-6
 same-length-6 c = search needs
 
-returns-3 : tie.Need-returns-3
-returns-3 c = let s = c .before .before .before .before .before .before .before .before .before .before .before .before .before .before .before .before in joins _ _ _ _ _ _ _ _ (s .pre .0) (c .before .before .before .before .before .before .before .before .before .before .place .ensures) _ _ (missing (c .before .before .before .before .before .before .before .before .before)) (let z = c .before .before .before .before .before .before .before .before .if3 .left in omega (arith, s .pre .1 .0)) (s .pre .1 .1 .0) (c .before .before .before .before .before .before .insert .ensures) (c .before .before .insert2 .ensures)
+returns-4 : tie.Need-returns-4
+returns-4 c = let s = c .before .before .before .before .before .before .before .before .before .before .before .before .before .before .before .before .before in joins _ _ _ _ _ _ _ _ (s .pre .0) (c .before .before .before .before .before .before .before .before .before .before .place .ensures) _ _ (missing (c .before .before .before .before .before .before .before .before .before)) (let z = c .before .before .before .before .before .before .before .before .if5 .left in omega (arith, s .pre .1 .0)) (s .pre .1 .1 .0) (c .before .before .before .before .before .before .insert .ensures) (c .before .before .insert2 .ensures)
 
 pub enter-spec : {M : Type 1} → statement M
 enter-spec =
     tie.close
     (tie.spec
-    place-requires
     mul-if2
     slice-read-if2
+    returns
+    place-requires
+    mul-if4
+    slice-read-if4
     mul-result
     slice-read-result
     cast-result
     same-length
-    returns
-    same-length-2
     returns-2
+    same-length-2
+    returns-3
     mul-nodes
     slice-write-nodes
     mul-tree
@@ -107,4 +119,4 @@ enter-spec =
     same-length-4
     same-length-5
     same-length-6
-    returns-3)
+    returns-4)

@@ -56,13 +56,13 @@ join-requires c κs = let s = c .before .before .before .before .before .before 
 price-requires : tie.Need-price-requires
 price-requires c κs = let s = c .before .before .before .before .before .before .before .before .before .before .before .before .before .before .before .before .before .before .before .before .before .before .before .before .before .before .before .before .before .before .before .before .before .before .before .before .before in let l = s .pre .0 in (omega (arith, l .cost, s .pre .1 .1 .1 .0), omega (arith, l .reward, s .pre .1 .1 .1 .0))
 
-add-t36 : tie.Need-add-t36
-add-t36 c =
+add-t37 : tie.Need-add-t37
+add-t37 c =
     let s = c .before .before .before .before .before .before .before .before .before .before .before .before .before .before .before .before .before .before .before .before .before .before .before .before .before .before .before .before .before .before .before .before .before .before .before .before .before .before .before .before .before .before in
     record { fits = omega (arith, s .pre .1 .1 .0) }
 
-add-t37 : tie.Need-add-t37
-add-t37 c =
+add-t38 : tie.Need-add-t38
+add-t38 c =
     let s = c .before .before .before .before .before .before .before .before .before .before .before .before .before .before .before .before .before .before .before .before .before .before .before .before .before .before .before .before .before .before .before .before .before .before .before .before .before .before .before .before .before .before in
     record { fits = omega (arith, s .pre .1 .1 .1 .0) }
 
@@ -102,8 +102,8 @@ returns-3 c = let s = c .before .before .before .before .before .before .before 
   arcs = refl;
 })
 
-add-t38 : tie.Need-add-t38
-add-t38 c =
+add-t39 : tie.Need-add-t39
+add-t39 c =
     let s = c .before .before .before .before .before .before .before .before .before .before .before .before .before .before .before .before .before .before .before .before .before .before .before .before .before .before .before .before .before .before .before .before .before .before .before .before .before .before .before .before .before .before in
     record { fits = omega (arith, s .pre .1 .1 .1 .0) }
 
@@ -157,8 +157,8 @@ take-turn-spec =
     returns-2
     join-requires
     price-requires
-    add-t36
     add-t37
+    add-t38
     same-length-5
     same-length-6
     same-length-7
@@ -169,7 +169,7 @@ take-turn-spec =
     same-length-12
     same-length-13
     returns-3
-    add-t38
+    add-t39
     same-length-14
     same-length-15
     same-length-16
