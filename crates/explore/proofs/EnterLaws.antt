@@ -1,37 +1,65 @@
--- What a turn comes to, by what `enter` answers.
-use mathlib.Core.Path.{_≡_, subst, _∙_}
+-- A turn of the search, by the answers of the step and of `enter`.
+use mathlib.Core.Path.{_≡_, subst}
 use mathlib.Core.List.{List}
-use Prim.Native.Nat.{ℕ, _≤_}
+use mathlib.Core.Option.{Option, some}
+use Prim.Native.Nat.{ℕ, _+_, _*_, _≤_, _<_}
 use native.Mathlib.Omega.{arith}
-use lib.IntN.{ℤ}
+use Rattle.automaton.specs.Priced.{Priced}
+use Rattle.walks.specs.Walk.{at}
+use Rattle.region.specs.Answers.{answered}
 use Rattle.region.specs.declared.Stepped.{Stepped}
-use Rattle.explore.specs.Buffers.{buffers}
-use Rattle.explore.specs.Index.{Known, Added, Entered}
-use Rattle.explore.specs.Turns.{Over}
+use Rattle.explore.specs.Buffers.{Buffers, buffers, LongEnough}
+use Rattle.explore.specs.Index.{Known, Added, Full, Entered}
+use Rattle.explore.specs.Answer.{Stopped}
+use Rattle.explore.proofs.ArcLaws.{led, allowed, refused, Pushed}
+use Rattle.explore.proofs.SearchLaws.{Searched, seeded, skip, stop}
+use Rattle.explore.proofs.TurnLaws.{known-turn, new-turn}
 
-module _ (N K I P N' K' I' P' : List ℕ) (n y m j : ℕ) (few : n ≤ 2048) where
-  pub small : Entered N K I P N' K' I' P' n y m j → j ≤ 2048
-  small (Entered.known a) = omega (arith, a .below)
-  small (Entered.added a) = omega (arith, a .last)
-  small (Entered.full a) = omega (arith, a .last)
-
-  pub old : Entered N K I P N' K' I' P' n y m j → (j ≡ 2048 → ⊥) → (j ≡ n → ⊥) → Known N K I P N' K' I' P' n y j
+-- ---- which of its answers `enter` gave
+module _ (N K I P N' K' I' P' : List ℕ) (n y m j : ℕ) where
+  old : Entered N K I P N' K' I' P' n y m j → (j ≡ 2048 → ⊥) → (j ≡ n → ⊥) → Known N K I P N' K' I' P' n y j
   old (Entered.known a) p q = a
   old (Entered.added a) p q = absurd (q (a .last))
   old (Entered.full a) p q = absurd (p (a .last))
 
-  pub new : Entered N K I P N' K' I' P' n y m j → (j ≡ 2048 → ⊥) → j ≡ n → Added N K I P N' K' I' P' n y m n
+  new : Entered N K I P N' K' I' P' n y m j → (j ≡ 2048 → ⊥) → j ≡ n → Added N K I P N' K' I' P' n y m n
   new (Entered.known a) p q = absurd (omega (arith, a .below))
   new (Entered.added a) p q = subst (λ (j : ℕ). Added N K I P N' K' I' P' n y m j) q a
   new (Entered.full a) p q = absurd (p (a .last))
 
-  pub over : (F T C : List ℕ) (Z : List ℤ) (R : List ℕ) (s : Stepped) → s .number ≡ y → s .refusal ≡ 0 → Entered N K I P N' K' I' P' n y m j → j ≡ 2048
-      → Over (buffers N K I P F T C Z R) (buffers N' K' I' P' F T C Z R) n s
-  over F T C Z R s num ok (Entered.known a) e = absurd (omega (arith, a .below))
-  over F T C Z R s num ok (Entered.added a) e = absurd (omega (arith, a .last, a .room))
-  over F T C Z R s num ok (Entered.full a) e = record {
-    allowed = ok;
-    full = a .full;
-    fresh = λ v h q. a .fresh v h (q ∙ num);
-    same = λ i. record { node = a .nodes i; sorted = a .sorted i; order = a .order i; tree = a .tree i; from = F; to = T; code = C; cost = Z; reward = R };
-  }
+  over : n ≤ 2048 → Entered N K I P N' K' I' P' n y m j → j ≡ 2048 → Full N K I P N' K' I' P' n y j
+  over few (Entered.known a) e = absurd (omega (arith, a .below))
+  over few (Entered.added a) e = absurd (omega (arith, a .last, a .room))
+  over few (Entered.full a) e = a
+
+pub small : (N K I P N' K' I' P' : List ℕ) (n y m j : ℕ) → n ≤ 2048 → Entered N K I P N' K' I' P' n y m j → j ≤ 2048
+small N K I P N' K' I' P' n y m j few (Entered.known a) = omega (arith, a .below)
+small N K I P N' K' I' P' n y m j few (Entered.added a) = omega (arith, a .last)
+small N K I P N' K' I' P' n y m j few (Entered.full a) = omega (arith, a .last)
+
+-- ---- turn t
+module _ (step : ℕ → ℕ → Option (Priced ℕ)) (start : ℕ) (b₀ b : Buffers) (n m i k t : ℕ) (s : Stepped) (g : Searched step start (seeded b₀) b n m t)
+    (long : LongEnough b) (hi : i < n) (hk : k < 34) (turn : t ≡ 34 * i + k) (ht : t < 34 * n) (told : s ≡ answered (step (at (b .node) i) k)) where
+  leads : s .refusal ≡ 0 → step (at (b .node) i) k ≡ some (led s)
+  leads e = allowed (step (at (b .node) i) k) s told e
+
+  pub no-arc : (s .refusal ≡ 0 → ⊥) → Searched step start (seeded b₀) b n m (t + 1)
+  no-arc e = skip step start (seeded b₀) b n m i k t g hk turn ht (refused (step (at (b .node) i) k) s told e)
+
+  module _ (ok : s .refusal ≡ 0) where
+    pub stopped : (N K I P : List ℕ) (j : ℕ) → Entered (b .node) (b .sorted) (b .order) (b .tree) N K I P n (s .number) m j → j ≡ 2048
+        → Stopped step start b₀ (buffers N K I P (b .from) (b .to) (b .code) (b .cost) (b .reward))
+    stopped N K I P j e z =
+        let a = over (b .node) (b .sorted) (b .order) (b .tree) N K I P n (s .number) m j (g .few-nodes) e z in
+        rw (a .nodes, a .sorted, a .order, a .tree) (stop step start b₀ b n m i k t (led s) g hi (a .full) (leads ok) (a .fresh))
+
+    module _ (b' : Buffers) (j : ℕ) (e : Entered (b .node) (b .sorted) (b .order) (b .tree) (b' .node) (b' .sorted) (b' .order) (b' .tree) n (s .number) m j)
+        (room : j ≡ 2048 → ⊥) (w : Pushed b b' m i j k s) where
+      pub known-node : (j ≡ n → ⊥) → Searched step start (seeded b₀) b' n (m + 1) (t + 1)
+      known-node z = known-turn step start (seeded b₀) b b' n m i k t s g long hi hk turn (leads ok) j ht
+          (old (b .node) (b .sorted) (b .order) (b .tree) (b' .node) (b' .sorted) (b' .order) (b' .tree) n (s .number) m j e room z) w
+
+      pub new-node : j ≡ n → Searched step start (seeded b₀) b' (n + 1) (m + 1) (t + 1)
+      new-node z = new-turn step start (seeded b₀) b b' n m i k t s g long hi hk turn (leads ok)
+          (new (b .node) (b .sorted) (b .order) (b .tree) (b' .node) (b' .sorted) (b' .order) (b' .tree) n (s .number) m j e room z)
+          (subst (λ (j : ℕ). Pushed b b' m i j k s) z w) ht

@@ -1,7 +1,9 @@
 pub mod StepLaws
+pub mod PlaceLaws
 pub mod IndexLaws
-pub mod EnterLaws
 pub mod SearchLaws
+pub mod LengthLaws
+pub mod ArcLaws
 pub mod TurnLaws
-pub mod AnswerLaws
+pub mod EnterLaws
 pub mod HandLaws

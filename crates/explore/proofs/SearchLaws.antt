@@ -3,7 +3,7 @@ use mathlib.Core.Path.{_≡_, refl, sym, ap, subst, _∙_}
 use mathlib.Core.Logic.{_⊎_, inl, inr, ⊎-elim}
 use mathlib.Core.List.{List}
 use mathlib.Core.Option.{Option, none, some}
-use Prim.Native.Nat.{ℕ, zero, suc, _+_, _*_, _≤_, _<_}
+use Prim.Native.Nat.{ℕ, _+_, _*_, _≤_, _<_}
 use native.Mathlib.Omega.{arith}
 use native.Mathlib.Decide.{ℕ-discrete}
 use lib.ListN.{length, set, drop, getD}
@@ -144,15 +144,6 @@ module _ (step : ℕ → ℕ → Option (Priced ℕ)) (start : ℕ) where
     index = g .index;
     rest = g .rest;
   }
-
-  -- w codes of one node, none of them a step
-  pub skips : (b₀ b : Buffers) (n m i k t w : ℕ) → Searched b₀ b n m t → k + w ≤ 34 → t ≡ 34 * i + k → i < n
-      → ((j : ℕ) → k ≤ j → j < k + w → step (at (b .node) i) j ≡ none) → Searched b₀ b n m (t + w)
-  skips b₀ b n m i k t zero g h e l p = subst (Searched b₀ b n m) (omega arith) g
-  skips b₀ b n m i k t (suc w) g h e l p =
-      let ih = skips b₀ b n m i k t w g (omega arith) e l (λ j q r. p j q (omega arith)) in
-      subst (Searched b₀ b n m) (omega arith)
-      (skip b₀ b n m i (k + w) (t + w) ih (omega arith) (omega arith) (omega arith) (p (k + w) (omega arith) (omega arith)))
 
   -- every turn is taken
   pub done : (b₀ b : Buffers) (n m t : ℕ) → ((x code : ℕ) (v : Priced ℕ) → step x code ≡ some v → code < 34) → Searched b₀ b n m t → 34 * n ≤ t

@@ -2,7 +2,7 @@
 use mathlib.Core.Path.{_≡_, refl, sym, ap, subst, _∙_}
 use mathlib.Core.Logic.{_⊎_, inl, inr, ⊎-elim}
 use mathlib.Core.List.{List}
-use mathlib.Core.Option.{Option, none, some}
+use mathlib.Core.Option.{Option, some}
 use Prim.Native.Nat.{ℕ, _+_, _*_, _≤_, _<_}
 use native.Mathlib.Omega.{arith}
 use lib.ListN.{drop}
@@ -12,25 +12,12 @@ use Rattle.automaton.specs.Walks.{Reachable}
 use Rattle.automaton.proofs.Walks.{reach-step}
 use Rattle.walks.specs.Walk.{at}
 use Rattle.contract.specs.Explored.{ArcOf}
-use Rattle.region.specs.Answers.{answered}
 use Rattle.region.specs.declared.Stepped.{Stepped}
 use Rattle.explore.specs.Buffers.{Buffers, found, LongEnough}
 use Rattle.explore.specs.Index.{Index, Known, Added}
-use Rattle.explore.specs.Turns.{Pushed}
 use Rattle.explore.specs.Answer.{SearchTree, Rest, IsStep}
+use Rattle.explore.proofs.ArcLaws.{led, Pushed}
 use Rattle.explore.proofs.SearchLaws.{Searched, up-to, kept, there, beyond, set-rest, next-turn}
-
--- where a step leads, as it is answered
-abbrev pub led : Stepped → Priced ℕ
-led s = record { to = s .number; cost = s .cost; reward = s .reward }
-
-pub allowed : (o : Option (Priced ℕ)) (s : Stepped) → s ≡ answered o → s .refusal ≡ 0 → o ≡ some (led s)
-allowed none s p q = absurd (let z : 16 ≡ 0 = sym (ap (λ (s : Stepped). s .refusal) p) ∙ q in omega arith)
-allowed (some v) s p q = ap (λ (s : Stepped). some (led s)) (sym p)
-
-pub refused : (o : Option (Priced ℕ)) (s : Stepped) → s ≡ answered o → (s .refusal ≡ 0 → ⊥) → o ≡ none
-refused none s p q = refl
-refused (some v) s p q = absurd (q (ap (λ (s : Stepped). s .refusal) p))
 
 module _ (step : ℕ → ℕ → Option (Priced ℕ)) (start : ℕ) (b₀ b b' : Buffers) (n m i k t : ℕ) (s : Stepped) (g : Searched step start b₀ b n m t)
     (long : LongEnough b) (hi : i < n) (hk : k < 34) (turn : t ≡ 34 * i + k) (leads : step (at (b .node) i) k ≡ some (led s)) where

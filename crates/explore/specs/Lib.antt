@@ -1,5 +1,4 @@
 pub mod Buffers
 pub mod Index
 pub mod Records
-pub mod Turns
 pub mod Answer

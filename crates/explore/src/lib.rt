@@ -8,11 +8,11 @@ ghost use Rattle.explore.specs.Buffers.{buffers, each};
 ghost use Rattle.explore.specs.Answer.{Answered};
 use sheet::Sheet;
 
+mod arcs;
 mod hints;
 mod index;
 mod search;
 mod steps;
-mod turns;
 
 // A buffer is too short; more than 2,048 nodes are reachable; or so many nodes and arcs.
 pub enum Outcome {

@@ -4,7 +4,6 @@ ghost use Rattle.nodes.specs.Decoded.{decodedMeaning};
 ghost use Rattle.explore.specs.Buffers.{buffers, LongEnough};
 ghost use Rattle.explore.specs.Answer.{Answered};
 use crate::Outcome;
-use crate::turns::Turn;
 use sheet::Sheet;
 
 // Turn t is the code t % 34 at the node t / 34.
@@ -29,7 +28,6 @@ pub(crate) fn search(
 {
     let written = sheet.edge;
     let edges = crate::steps::records(written);
-    let sources = crate::steps::sources(edges);
     let listed = sheet.location;
     let locations = crate::steps::by_byte(listed);
     nodes[0] = 0;
@@ -42,45 +40,28 @@ pub(crate) fn search(
     while t < 34 * n {
         let i = t / 34;
         let k = t % 34;
+        t += 1;
         let x = nodes[i];
-        let j = k % 32;
-        let edge = edges[j];
-        let location = region::location_in(x);
-        if crate::steps::elsewhere(k, edge.source, location) {
-            t += crate::steps::away(&sources, k, location);
+        let edge = edges[k % 32];
+        let l = crate::steps::location_of(x, k, edge.target);
+        let location = locations[l];
+        let s = crate::steps::step_at(x, k, sheet.clocks, sheet.edges, edge, location);
+        if s.refusal != 0 {
             continue;
         }
-        let e = crate::steps::place(edge.target);
-        let l = crate::steps::place(location);
-        let target = locations[e];
-        let here = locations[l];
-        let s = crate::steps::step_at(x, k, sheet.clocks, sheet.edges, edge, target, here);
         let slot = crate::hints::slot(s.number);
         let hint = hints[slot];
-        let v = crate::turns::take_turn(
-            nodes,
-            sorted,
-            order,
-            tree,
-            from,
-            to,
-            code,
-            cost,
-            reward,
-            n,
-            m,
-            i,
-            k,
-            s,
-            hint,
-        );
-        let Turn::Go(a, b) = v else {
+        let j = crate::index::enter(nodes, sorted, order, tree, n, s.number, m, hint);
+        if j == 2048 {
             return Outcome::TooMany;
-        };
-        hints[slot] = crate::hints::renewed(hint, n, a);
-        n = a;
-        m = b;
-        t += 1;
+        }
+        crate::arcs::join(from, to, code, m, i, j, k);
+        crate::arcs::price(cost, reward, m, s.cost, s.reward);
+        m += 1;
+        if j == n {
+            hints[slot] = n as u16;
+            n += 1;
+        }
     }
     Outcome::Graph(n, m)
 }

@@ -1,15 +1,13 @@
 // One step of a sheet by the records that it needs, so that the sheet itself is not passed on with each step.
 ghost use mathlib.Core.Path.{_≡_};
-ghost use Prim.Native.Nat.{ℕ, _+_, _<_, _≤_};
-ghost use mathlib.Core.Bool.{_&&_, not};
-ghost use lib.Dec.{ltb, eqb};
+ghost use Prim.Native.Nat.{ℕ, _<_};
 ghost use lib.ListN.{length, getD};
-ghost use Rattle.sheet.specs.Decoded.{blankEdge, blankLocation};
+ghost use Rattle.sheet.specs.Decoded.{blankLocation};
 ghost use Rattle.sheet.specs.declared.Sheet.{Sheet};
-ghost use Rattle.nodes.specs.Numbers.{firstLayout, stepBy};
+ghost use Rattle.nodes.specs.Numbers.{firstLayout, bitsOf, stepBy};
 ghost use Rattle.nodes.specs.Decoded.{decodedMeaning};
 ghost use Rattle.region.specs.Answers.{answered};
-ghost use Rattle.explore.specs.Records.{Records, Away};
+ghost use Rattle.explore.specs.Records.{Records};
 use region::Stepped;
 use sheet::Edge;
 use sheet::Location;
@@ -40,72 +38,42 @@ pub(crate) fn by_byte(locations: [Location; 12]) -> [Location; 256]
     all
 }
 
-// The edges' source locations, side by side.
-pub(crate) fn sources(edges: [Edge; 32]) -> [u8; 32]
-    ensures { λ r. ⌜ length r ≡ 32 ⌝ ∗ ⌜ ((j : ℕ) → j < 32 → getD r j 0 ≡ getD edges j blankEdge .source) ⌝ }
-{
-    let mut all = [0u8; 32];
-    let mut i = 0;
-    while i < 32 {
-        let edge = edges[i];
-        all[i] = edge.source;
-        i += 1;
-    }
-    all
-}
-
-pub(crate) fn place(x: u8) -> usize
+fn place(x: u8) -> usize
     ensures { λ r. ⌜ r ≡ x ⌝ ∗ ⌜ r < 256 ⌝ }
 {
     x as usize
 }
 
-// Whether k is the code of an edge that leaves another location than `here`: most are.
-pub(crate) fn elsewhere(k: usize, source: u8, here: u8) -> bool
-    ensures { λ r. ⌜ r ≡ (ltb k 32 && not (eqb source here)) ⌝ }
+// The place of the record that the step with code k at the node x needs: that of the location which an edge leads to, or which a delay stays in.
+pub(crate) fn location_of(x: u32, k: usize, target: u8) -> usize
+    ensures { λ r. ⌜ r < 256 ⌝ ∗ ⌜ (k < 32 → r ≡ target) ⌝ ∗ ⌜ (31 < k → r ≡ bitsOf x 4 20) ⌝ }
 {
     if k < 32 {
-        return source != here;
+        return place(target);
     }
-    false
+    place(region::location_in(x))
 }
 
-// How many codes from k on, the first of which is that of an edge, to the next edge that leaves `here`, or to the delays.
-pub(crate) fn away(sources: &[u8], k: usize, here: u8) -> usize
-    requires { ⌜ length (now sources) ≡ 32 ⌝ ∗ ⌜ k < 32 ⌝ }
-    ensures { λ r. ⌜ 0 < r ⌝ ∗ ⌜ k + r ≤ 32 ⌝ ∗ ⌜ Away (now (sources .entry)) k (k + r) here ⌝ }
-{
-    let mut j = k + 1;
-    while j < 32 {
-        if sources[j] == here {
-            return j - k;
-        }
-        j += 1;
-    }
-    j - k
-}
-
-// The step with code k at the node x. The records are the edge's, where k is the code of one, its target's, and that of the location that x tells.
+// The step with code k at the node x, by the records that it needs.
 pub(crate) fn step_at(
     x: u32,
     k: usize,
     clocks: u8,
     count: u8,
     edge: Edge,
-    target: Location,
-    here: Location,
+    location: Location,
 ) -> Stepped
     requires { ⌜ k < 34 ⌝ }
-    ensures { λ r. ⌜ ((s : Sheet) → Records s x k clocks count edge target here → r ≡ answered (stepBy firstLayout (decodedMeaning s) x k)) ⌝ }
+    ensures { λ r. ⌜ ((s : Sheet) → Records s x k clocks count edge location → r ≡ answered (stepBy firstLayout (decodedMeaning s) x k)) ⌝ }
 {
     match k {
         0..=31 => {
             if place(count) <= k {
                 return region::refused(16);
             }
-            region::edges::edge_step(x, clocks, edge, target)
+            region::edges::edge_step(x, clocks, edge, location)
         }
-        32 => region::delays::unit_step(x, clocks, here),
-        _ => region::delays::move_step(x, clocks, here),
+        32 => region::delays::unit_step(x, clocks, location),
+        _ => region::delays::move_step(x, clocks, location),
     }
 }

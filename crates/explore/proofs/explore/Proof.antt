@@ -3,7 +3,7 @@ use mathlib.Core.Path.{refl, sym, _∙_}
 use denote.Ref.{now}
 use borrow.Author.Tests.{not-true, not-false}
 use Rattle.explore.specs.Buffers.{Buffers, buffers}
-use Rattle.explore.proofs.AnswerLaws.{long-of, not-long}
+use Rattle.explore.proofs.LengthLaws.{long-of, not-long}
 use borrow.Author.Needs.{needs}
 use Rattle.explore.proofs.explore.Statement.{statement}
 use Rattle.explore.proofs.explore.Tie as tie

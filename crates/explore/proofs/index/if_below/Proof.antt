@@ -1,6 +1,6 @@
 -- The difference has ones from bit 32 on, or zeros.
 use borrow.Author.Needs.{needs}
-use Rattle.explore.proofs.IndexLaws.{gap-ones, gap-zeros}
+use Rattle.explore.proofs.PlaceLaws.{gap-ones, gap-zeros}
 use Rattle.explore.proofs.index.if_below.Statement.{statement}
 use Rattle.explore.proofs.index.if_below.Tie as tie
 

@@ -1,6 +1,6 @@
 -- From i on, all has moved up.
 use borrow.Author.Needs.{needs}
-use Rattle.explore.proofs.IndexLaws.{Shifted, shift-start, shift-one, shift-end}
+use Rattle.explore.proofs.PlaceLaws.{Shifted, shift-start, shift-one, shift-end}
 use Rattle.explore.proofs.index.insert.Statement.{statement}
 use Rattle.explore.proofs.index.insert.Tie as tie
 

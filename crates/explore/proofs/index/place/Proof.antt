@@ -4,7 +4,7 @@ use native.Mathlib.Omega.{arith}
 use denote.Ref.{now}
 use Rattle.explore.specs.Index.{Place}
 use borrow.Author.Needs.{needs}
-use Rattle.explore.proofs.IndexLaws.{Bracket, bracket-start, bracket-half, bracket-end, bracket-one}
+use Rattle.explore.proofs.PlaceLaws.{Bracket, bracket-start, bracket-half, bracket-end, bracket-one}
 use Rattle.explore.proofs.index.place.Statement.{statement}
 use Rattle.explore.proofs.index.place.Tie as tie
 

@@ -18,7 +18,7 @@ refused-requires c κs = search needs
 returns : tie.Need-returns
 returns c =
     let a = c .before .before .before .before .before .args in
-    λ s r. c .refused .ensures ∙ no-edge-there s (a .x) (a .k) (a .clocks) (a .count) (a .edge) (a .target) (a .here) r (omega arith) (omega (arith, c .before .before .place .ensures .0))
+    λ s r. c .refused .ensures ∙ no-edge-there s (a .x) (a .k) (a .clocks) (a .count) (a .edge) (a .location) r (omega arith) (omega (arith, c .before .before .place .ensures .0))
 
 edge-step-requires : tie.Need-edge-step-requires
 edge-step-requires c κs = search needs
@@ -29,18 +29,18 @@ move-step-requires c κs = search needs
 returns-2 : tie.Need-returns-2
 returns-2 c =
     let a = c .before .before .args in
-    λ s r. c .unit-step .ensures ∙ delay-by-record s (a .x) (a .k) (a .clocks) (a .count) (a .edge) (a .target) (a .here) r 32 (c .before .match .keys1) (omega arith)
+    λ s r. c .unit-step .ensures ∙ delay-by-record s (a .x) (a .k) (a .clocks) (a .count) (a .edge) (a .location) r 32 (c .before .match .keys1) (omega arith)
 
 returns-3 : tie.Need-returns-3
 returns-3 c =
     let a = c .before .before .before .before .before .args in
-    λ s r. c .edge-step .ensures ∙ edge-by-record s (a .x) (a .k) (a .clocks) (a .count) (a .edge) (a .target) (a .here) r (omega arith) (omega (arith, c .before .before .place .ensures .0))
+    λ s r. c .edge-step .ensures ∙ edge-by-record s (a .x) (a .k) (a .clocks) (a .count) (a .edge) (a .location) r (omega arith) (omega (arith, c .before .before .place .ensures .0))
 
 returns-4 : tie.Need-returns-4
 returns-4 c =
     let a = c .before .before .before .args in
     let e : a .k ≡ 33 = omega (arith, c .before .before .before .pre) in
-    λ s r. c .move-step .ensures ∙ delay-by-record s (a .x) (a .k) (a .clocks) (a .count) (a .edge) (a .target) (a .here) r 33 e (omega arith)
+    λ s r. c .move-step .ensures ∙ delay-by-record s (a .x) (a .k) (a .clocks) (a .count) (a .edge) (a .location) r 33 e (omega arith)
 
 pub step-at-spec : {M : Type 1} → statement M
 step-at-spec =

@@ -1,60 +1,15 @@
--- A turn of the search by its answer; and what the first test says of the buffers.
-use mathlib.Core.Path.{_≡_, refl, sym, subst}
-use mathlib.Core.Logic.{⊎-elim}
+-- What the first test says of the lengths of the buffers; and that they stay.
+use mathlib.Core.Path.{_≡_}
 use mathlib.Core.Bool.{Bool, true, false, _&&_}
-use mathlib.Core.Option.{Option, some}
-use Prim.Native.Nat.{ℕ, zero, suc, _+_, _*_, _≤_, _<_}
+use Prim.Native.Nat.{ℕ, _≤_}
 use native.Mathlib.Omega.{arith}
 use borrow.Author.Tests.{leb-true, le-leb}
 use lib.Dec.{leb}
-use lib.ListN.{length, replicate, length-set}
-use Rattle.automaton.specs.Automaton.{Automaton}
-use Rattle.automaton.specs.Priced.{Priced}
-use Rattle.automaton.specs.Nodes.{startNode}
+use lib.ListN.{length, length-set}
 use Rattle.automaton.proofs.Tests.{&&-left, &&-right}
-use Rattle.walks.specs.Walk.{at}
-use Rattle.nodes.specs.Numbers.{firstLayout, number, clocksFrom, startNumber}
-use Rattle.region.specs.Answers.{answered}
-use Rattle.region.specs.declared.Stepped.{Stepped}
 use Rattle.explore.specs.Buffers.{Buffers, LongEnough, each}
-use Rattle.explore.specs.Turns.{Turned, Over}
-use Rattle.explore.specs.Answer.{Stopped}
-use Rattle.explore.specs.declared.turns.Turn.{Turn}
-use Rattle.explore.specs.declared.turns.Turn.the-variants.{Full, Go}
-use Rattle.explore.proofs.SearchLaws.{Searched, seeded, skip, stop}
-use Rattle.explore.proofs.TurnLaws.{led, allowed, refused, known-turn, new-turn}
+use Rattle.explore.proofs.SearchLaws.{seeded}
 
--- ---- a turn
-module _ (step : ℕ → ℕ → Option (Priced ℕ)) (start : ℕ) (b₀ b b' : Buffers) (n m i k t : ℕ) (s : Stepped) (g : Searched step start (seeded b₀) b n m t)
-    (long : LongEnough b) (hi : i < n) (hk : k < 34) (turn : t ≡ 34 * i + k) (ht : t < 34 * n) (told : s ≡ answered (step (at (b .node) i) k)) where
-  leads : s .refusal ≡ 0 → step (at (b .node) i) k ≡ some (led s)
-  leads e = allowed (step (at (b .node) i) k) s told e
-
-  pub stopped : (r : Turn) → r ≡ Full → Turned b b' n m i k s r → Stopped step start b₀ b'
-  stopped r p w =
-      let o : Over b b' n s = subst (λ (r : Turn). Turned b b' n m i k s r) p w in
-      subst (λ (c : Buffers). Stopped step start b₀ c) (sym (o .same))
-      (stop step start b₀ b n m i k t (led s) g hi (o .full) (leads (o .allowed)) (o .fresh))
-
-  pub went : (r : Turn) (n' m' : ℕ) → r ≡ Go n' m' → Turned b b' n m i k s r → Searched step start (seeded b₀) b' n' m' (t + 1)
-  went r n' m' p w = ⊎-elim
-      (λ q. rw (q .nodes, q .arcs, q .same) (skip step start (seeded b₀) b n m i k t g hk turn ht (refused (step (at (b .node) i) k) s told (q .refused))))
-      (⊎-elim
-      (λ q. rw (q .nodes, q .arcs) (known-turn step start (seeded b₀) b b' n m i k t s g long hi hk turn (leads (q .allowed)) (q .target) ht (q .known) (q .pushed)))
-      (λ q. rw (q .nodes, q .arcs) (new-turn step start (seeded b₀) b b' n m i k t s g long hi hk turn (leads (q .allowed)) (q .added) (q .pushed) ht)))
-      (subst (λ (r : Turn). Turned b b' n m i k s r) p w)
-
--- ---- the start
-clocks-zero : (j k : ℕ) → clocksFrom firstLayout j (replicate k 0) (replicate k 0) ≡ 0
-unfolding clocksFrom
-clocks-zero j zero = refl
-clocks-zero j (suc k) = let ih = clocks-zero (suc j) k in omega (arith, ih)
-
-pub start-zero : (A : Automaton) → startNumber firstLayout A ≡ 0
-unfolding number startNode
-start-zero A = omega (arith, clocks-zero 0 (A .clocks))
-
--- ---- the lengths
 each-true : (least a b c d : ℕ) → each least a b c d ≡ true → (least ≤ a) × ((least ≤ b) × ((least ≤ c) × (least ≤ d)))
 each-true least a b c d e =
     let f = &&-right (leb least a) (leb least b && (leb least c && leb least d)) e in

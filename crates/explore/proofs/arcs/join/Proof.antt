@@ -5,8 +5,8 @@ use Prim.Native.Nat.{ℕ}
 use lib.ListN.{set}
 use denote.Ref.{now}
 use borrow.Author.Needs.{needs}
-use Rattle.explore.proofs.turns.join.Statement.{statement}
-use Rattle.explore.proofs.turns.join.Tie as tie
+use Rattle.explore.proofs.arcs.join.Statement.{statement}
+use Rattle.explore.proofs.arcs.join.Tie as tie
 
 same : (l : List ℕ) (m x y : ℕ) → x ≡ y → set l m x ≡ set l m y
 same l m x y p = ap (λ (z : ℕ). set l m z) p
