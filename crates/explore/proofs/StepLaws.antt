@@ -1,9 +1,12 @@
 -- The records of a step are those of the sheet; a list that is copied to the front of blank entries; the number of the start.
 use mathlib.Core.Path.{_≡_, refl, sym, ap, subst, _∙_}
+use mathlib.Core.Bool.{Bool, true, false, _&&_}
+use mathlib.Core.Option.{none}
 use mathlib.Core.List.{List}
 use Prim.Native.Nat.{ℕ, zero, suc, _+_, _-_, _≤_, _<_}
 use native.Mathlib.Omega.{arith}
 use native.Mathlib.Decide.{ℕ-discrete, decLt}
+use borrow.Author.Tests.{le-leb, ne-eqb}
 use lib.ListN.{length, getD, set, replicate, length-set, length-replicate, getD-replicate, List·getD-eq-default}
 use lib.Seq.{getD-set-same, getD-set-other}
 use Rattle.sheet.specs.Decoded.{blankEdge}
@@ -12,9 +15,9 @@ use Rattle.sheet.specs.declared.Location.{Location}
 use Rattle.sheet.specs.declared.Sheet.{Sheet}
 use Rattle.automaton.specs.Automaton.{Automaton}
 use Rattle.automaton.specs.Nodes.{startNode}
-use Rattle.automaton.specs.Steps.{step}
-use Rattle.nodes.specs.Numbers.{firstLayout, number, clocksFrom, startNumber, stepBy}
-use Rattle.nodes.specs.Decoded.{decodedMeaning, alone}
+use Rattle.automaton.specs.Steps.{step, edgeStep}
+use Rattle.nodes.specs.Numbers.{firstLayout, bitsOf, nodeOf, number, clocksFrom, startNumber, stepBy}
+use Rattle.nodes.specs.Decoded.{decodedMeaning, edgeIn, alone}
 use Rattle.region.specs.Answers.{answered, refused}
 use Rattle.region.specs.declared.Stepped.{Stepped}
 use Rattle.step.proofs.SheetLaws.{no-edge, edge-there, delay-there}
@@ -66,6 +69,15 @@ module _ (s : Sheet) (x k clocks count : ℕ) (edge : Edge) (location : Location
   pub delay-by-record : (c : ℕ) → k ≡ c → 31 < c → Is (answered (stepBy firstLayout (alone clocks blankEdge location) x c))
   delay-by-record c e h = ap (λ (n : ℕ). answered (stepBy firstLayout (alone n blankEdge location) x c)) (r .clocks-are)
       ∙ delay-there s x k c e h location (r .here-is (omega arith))
+
+-- ---- an edge of another location is no step
+both-false : (b c : Bool) → b && (false && c) ≡ false
+both-false true c = refl
+both-false false c = refl
+
+pub not-here : (s : Sheet) (x k : ℕ) → k < 32 → (edgeIn s k .source ≡ bitsOf x 4 20 → ⊥) → stepBy firstLayout (decodedMeaning s) x k ≡ none
+unfolding stepBy step edgeStep decodedMeaning nodeOf
+not-here s x k h n = simp (le-leb k 31 (omega arith), ne-eqb _ _ n, both-false)
 
 -- ---- the number of the start
 clocks-zero : (j k : ℕ) → clocksFrom firstLayout j (replicate k 0) (replicate k 0) ≡ 0

@@ -43,6 +43,9 @@ pub(crate) fn search(
         t += 1;
         let x = nodes[i];
         let edge = edges[k % 32];
+        if crate::steps::elsewhere(x, k, edge.source) {
+            continue;
+        }
         let l = crate::steps::location_of(x, k, edge.target);
         let location = locations[l];
         let s = crate::steps::step_at(x, k, sheet.clocks, sheet.edges, edge, location);

@@ -1,5 +1,6 @@
 // One step of a sheet by the records that it needs, so that the sheet itself is not passed on with each step.
 ghost use mathlib.Core.Path.{_≡_};
+ghost use mathlib.Core.Bool.{true};
 ghost use Prim.Native.Nat.{ℕ, _<_};
 ghost use lib.ListN.{length, getD};
 ghost use Rattle.sheet.specs.Decoded.{blankLocation};
@@ -42,6 +43,16 @@ fn place(x: u8) -> usize
     ensures { λ r. ⌜ r ≡ x ⌝ ∗ ⌜ r < 256 ⌝ }
 {
     x as usize
+}
+
+// Whether k is the code of an edge that leaves another location than that of x: most are, and they are passed over.
+pub(crate) fn elsewhere(x: u32, k: usize, source: u8) -> bool
+    ensures { λ r. ⌜ (r ≡ true → (k < 32) × (source ≡ bitsOf x 4 20 → ⊥)) ⌝ }
+{
+    if k < 32 {
+        return source != region::location_in(x);
+    }
+    false
 }
 
 // The place of the record that the step with code k at the node x needs: that of the location which an edge leads to, or which a delay stays in.

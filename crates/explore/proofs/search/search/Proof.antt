@@ -22,8 +22,8 @@ use Rattle.region.specs.Answers.{answered}
 use Rattle.step.proofs.SheetLaws.{any-default}
 use Rattle.walks.specs.Walk.{at}
 use Rattle.explore.specs.Buffers.{Buffers, buffers, LongEnough}
-use Rattle.explore.proofs.StepLaws.{start-zero}
-use Rattle.explore.proofs.SearchLaws.{Searched, seeded, begin, done, filled}
+use Rattle.explore.proofs.StepLaws.{start-zero, not-here}
+use Rattle.explore.proofs.SearchLaws.{Searched, seeded, begin, skip, done, filled}
 use Rattle.explore.proofs.ArcLaws.{Pushed}
 use Rattle.explore.proofs.LengthLaws.{Same, long-kept}
 use Rattle.explore.proofs.EnterLaws.{small, no-arc, stopped, known-node, new-node}
@@ -57,7 +57,7 @@ abbrev T : tie.After-enter Inv-loop μ-loop → tie.After-step-at Inv-loop μ-lo
 T c = c .before .before .before .before .before .before .before .before
 
 abbrev L : tie.After-step-at Inv-loop μ-loop → tie.At-loop Inv-loop μ-loop
-L c = c .before .before .before .before .before .before
+L c = c .before .before .before .before .before .before .before .before
 
 abbrev S : tie.At-loop Inv-loop μ-loop → tie.Start Inv-loop μ-loop
 S c = c .before .before .before .before .before .before .before .before .before .before .before .before .before
@@ -84,6 +84,19 @@ long c = long-kept (entry (S c)) (here c) (c .loop .inv .1) (S c .pre)
 
 -- ---- turn t, where the step is answered
 
+abbrev E₀ : tie.After-edge Inv-loop μ-loop → tie.At-loop Inv-loop μ-loop
+E₀ c = c .before .before .before
+
+record-is : (c : tie.After-edge Inv-loop μ-loop) (d : Edge) → let l = E₀ c in let k = l .loop .t % 34 in
+    k < 32 → getD (l .before .before .before .records .result) (k % 32) d ≡ edgeIn (S l .args .sheet) k
+record-is c d low =
+    let l = E₀ c in
+    let k = l .loop .t % 34 in
+    let rs = l .before .before .before .records in
+    let e : k % 32 ≡ k = omega arith in
+    any-default (rs .result) (k % 32) d blankEdge (omega (arith, rs .ensures .1)) ∙ ap (λ (es : List Edge). getD es (k % 32) blankEdge) (rs .ensures .0)
+    ∙ ap (edgeIn (S l .args .sheet)) e
+
 module _ (c : tie.After-step-at Inv-loop μ-loop) where
   abbrev sheet : Sheet
   sheet = S (L c) .args .sheet
@@ -94,8 +107,6 @@ module _ (c : tie.After-step-at Inv-loop μ-loop) where
   told : c .step-at .result ≡ answered (step sheet (at (here (L c) .node) (t / 34)) (t % 34))
   told =
       let l = L c in
-      let k = t % 34 in
-      let rs = l .before .before .before .records in
       let b = l .before .by-byte in
       let p = c .before .before .location-of in
       let bytes : length (b .result) ≡ 256 = search needs in
@@ -103,9 +114,7 @@ module _ (c : tie.After-step-at Inv-loop μ-loop) where
       c .step-at .ensures sheet (record {
         clocks-are = refl;
         edges-are = refl;
-        edge-is = λ low. (let e : k % 32 ≡ k = omega arith in
-            any-default (rs .result) (k % 32) _ blankEdge (omega (arith, rs .ensures .1))
-            ∙ ap (λ (es : List Edge). getD es (k % 32) blankEdge) (rs .ensures .0) ∙ ap (edgeIn sheet) e);
+        edge-is = record-is (c .before .before .before .before .before) _;
         target-is = λ low. location-is ∙ ap (locationIn sheet) (p .ensures .1 .0 low);
         here-is = λ high. location-is ∙ ap (locationIn sheet) (p .ensures .1 .1 high);
       })
@@ -180,6 +189,21 @@ mul-edge c = search needs
 array-copy-out-edge : tie.Need-array-copy-out-edge Inv-loop μ-loop
 array-copy-out-edge c = search needs
 
+elsewhere-requires : tie.Need-elsewhere-requires Inv-loop μ-loop
+elsewhere-requires c κs = search needs
+
+loop-less : tie.Need-loop-less Inv-loop μ-loop
+loop-less c = search needs
+
+loop-again : tie.Need-loop-again Inv-loop μ-loop
+loop-again c =
+    let l = E₀ (c .before .before) in
+    let i = l .loop .inv in
+    let t = l .loop .t in
+    let h = c .before .elsewhere .ensures (c .if1 .taken) in
+    let p = not-here (S l .args .sheet) (at (l .loop .nodes) (t / 34)) (t % 34) (h .0) (λ e. h .1 (ap (λ (r : Edge). r .source) (record-is (c .before .before) _ (h .0)) ∙ e)) in
+    (skip _ _ _ (here l) _ _ (t / 34) (t % 34) t (i .0) (omega arith) (omega arith) (c .before .before .before .before .loop-test .taken) p, i .1)
+
 location-of-requires : tie.Need-location-of-requires Inv-loop μ-loop
 location-of-requires c κs = search needs
 
@@ -192,15 +216,15 @@ array-copy-out-location c = search needs
 step-at-requires : tie.Need-step-at-requires Inv-loop μ-loop
 step-at-requires c κs = search needs
 
-loop-less : tie.Need-loop-less Inv-loop μ-loop
-loop-less c = search needs
+loop-less-2 : tie.Need-loop-less-2 Inv-loop μ-loop
+loop-less-2 c = search needs
 
-loop-again : tie.Need-loop-again Inv-loop μ-loop
-loop-again c =
+loop-again-2 : tie.Need-loop-again-2 Inv-loop μ-loop
+loop-again-2 c =
     let a = c .before .before in
     let l = L a in
-    let h = a .before .before .before .before .before .loop-test .taken in
-    (no-arc _ _ (entry (S l)) (here l) _ _ (t a / 34) (t a % 34) (t a) (a .step-at .result) (l .loop .inv .0) (long l) (omega (arith, h)) (omega arith) (omega arith) h (told a) (c .if1 .taken), l .loop .inv .1)
+    let h = a .before .before .before .before .before .before .before .loop-test .taken in
+    (no-arc _ _ (entry (S l)) (here l) _ _ (t a / 34) (t a % 34) (t a) (a .step-at .result) (l .loop .inv .0) (long l) (omega (arith, h)) (omega arith) (omega arith) h (told a) (c .if2 .taken), l .loop .inv .1)
 
 slot-requires : tie.Need-slot-requires Inv-loop μ-loop
 slot-requires c κs = search needs
@@ -234,30 +258,30 @@ same-length-3 c =
     omega (arith, e .enter .kept .1 .1 .0, L (T e) .loop .inv .1 .order, length-set (now (S (L (T e)) .args .order)) 0 0)
 
 same-length-4 : tie.Need-same-length-4 Inv-loop μ-loop
-same-length-4 c = search needs
+same-length-4 c = let e = c .before .before .before .before .before .before .before .before .before in e .enter .kept .1 .1 .1 .0 ∙ L (T e) .loop .inv .1 .tree
 
 same-length-5 : tie.Need-same-length-5 Inv-loop μ-loop
-same-length-5 c = search needs
+same-length-5 c = let e = c .before .before .before .before .before .before .before .before .before in L (T e) .loop .inv .1 .from
 
 same-length-6 : tie.Need-same-length-6 Inv-loop μ-loop
-same-length-6 c = search needs
+same-length-6 c = let e = c .before .before .before .before .before .before .before .before .before in L (T e) .loop .inv .1 .to
 
 same-length-7 : tie.Need-same-length-7 Inv-loop μ-loop
-same-length-7 c = search needs
+same-length-7 c = let e = c .before .before .before .before .before .before .before .before .before in L (T e) .loop .inv .1 .code
 
 same-length-8 : tie.Need-same-length-8 Inv-loop μ-loop
-same-length-8 c = search needs
+same-length-8 c = let e = c .before .before .before .before .before .before .before .before .before in L (T e) .loop .inv .1 .cost
 
 same-length-9 : tie.Need-same-length-9 Inv-loop μ-loop
-same-length-9 c = search needs
+same-length-9 c = let e = c .before .before .before .before .before .before .before .before .before in L (T e) .loop .inv .1 .reward
 
 returns : tie.Need-returns Inv-loop μ-loop
 returns c =
     let e = c .before .before .before .before .before .before .before .before .before in
     let a = T e in
     let l = L a in
-    let h = a .before .before .before .before .before .loop-test .taken in
-    (S l .pre, stopped _ _ (entry (S l)) (here l) _ _ (t a / 34) (t a % 34) (t a) (a .step-at .result) (l .loop .inv .0) (long l) (omega (arith, h)) (omega arith) (omega arith) h (told a) (e .before .before .before .before .before .before .if1 .left) _ _ _ _ _ (e .enter .ensures) (c .if2 .taken))
+    let h = a .before .before .before .before .before .before .before .loop-test .taken in
+    (S l .pre, stopped _ _ (entry (S l)) (here l) _ _ (t a / 34) (t a % 34) (t a) (a .step-at .result) (l .loop .inv .0) (long l) (omega (arith, h)) (omega arith) (omega arith) h (told a) (e .before .before .before .before .before .before .if2 .left) _ _ _ _ _ (e .enter .ensures) (c .if3 .taken))
 
 join-requires : tie.Need-join-requires Inv-loop μ-loop
 join-requires c κs =
@@ -265,12 +289,12 @@ join-requires c κs =
     let a = T e in
     let l = L a in
     let r = long l in
-    let few : l .loop .m < 69632 = omega (arith, l .loop .inv .0 .few-arcs, l .loop .inv .0 .few-nodes, a .before .before .before .before .before .loop-test .taken) in
+    let few : l .loop .m < 69632 = omega (arith, l .loop .inv .0 .few-arcs, l .loop .inv .0 .few-nodes, a .before .before .before .before .before .before .before .loop-test .taken) in
     let n = l .loop .inv .0 .few-nodes in (
       omega (arith, r .from),
       (
         omega (arith, r .to),
-        (omega (arith, r .code), (omega (arith, n, a .before .before .before .before .before .loop-test .taken), (omega (arith, small _ _ _ _ _ _ _ _ _ _ _ _ n (e .enter .ensures)), omega arith))),
+        (omega (arith, r .code), (omega (arith, n, a .before .before .before .before .before .before .before .loop-test .taken), (omega (arith, small _ _ _ _ _ _ _ _ _ _ _ _ n (e .enter .ensures)), omega arith))),
       ),
     )
 
@@ -278,14 +302,14 @@ price-requires : tie.Need-price-requires Inv-loop μ-loop
 price-requires c κs =
     let a = T (E (c .before .before .before .before .before .before .before .before .before)) in
     let l = L a in
-    let few : l .loop .m < 69632 = omega (arith, l .loop .inv .0 .few-arcs, l .loop .inv .0 .few-nodes, a .before .before .before .before .before .loop-test .taken) in
+    let few : l .loop .m < 69632 = omega (arith, l .loop .inv .0 .few-arcs, l .loop .inv .0 .few-nodes, a .before .before .before .before .before .before .before .loop-test .taken) in
     (omega (arith, long l .cost), omega (arith, long l .reward))
 
 add-m : tie.Need-add-m Inv-loop μ-loop
 add-m c =
     let a = T (E (J (P c))) in
     let g = L a .loop .inv .0 in
-    record { fits = omega (arith, g .few-arcs, g .few-nodes, a .before .before .before .before .before .loop-test .taken) }
+    record { fits = omega (arith, g .few-arcs, g .few-nodes, a .before .before .before .before .before .before .before .loop-test .taken) }
 
 cast-hints : tie.Need-cast-hints Inv-loop μ-loop
 cast-hints c = record { fits = omega (arith, L (T (E (J (P (c .before))))) .loop .inv .0 .few-nodes) }
@@ -299,24 +323,10 @@ array-write-hints c = search needs
 add-n : tie.Need-add-n Inv-loop μ-loop
 add-n c = record { fits = omega (arith, L (T (E (J (P (c .before))))) .loop .inv .0 .few-nodes) }
 
-loop-less-2 : tie.Need-loop-less-2 Inv-loop μ-loop
-loop-less-2 c =
-    let a = T (E (J (P (c .before)))) in
-    omega (arith, L a .loop .inv .0 .few-nodes, a .before .before .before .before .before .loop-test .taken)
-
-loop-again-2 : tie.Need-loop-again-2 Inv-loop μ-loop
-loop-again-2 c =
-    let p = P (c .before) in
-    let e = E (J p) in
-    let a = T e in
-    let l = L a in
-    let h = a .before .before .before .before .before .loop-test .taken in
-    (new-node _ _ (entry (S l)) (here l) _ _ (t a / 34) (t a % 34) (t a) (a .step-at .result) (l .loop .inv .0) (long l) (omega (arith, h)) (omega arith) (omega arith) h (told a) (e .before .before .before .before .before .before .if1 .left) (after p) _ (e .enter .ensures) (J p .before .before .before .before .if2 .left) (pushed p) (c .if3 .taken), kept p)
-
 loop-less-3 : tie.Need-loop-less-3 Inv-loop μ-loop
 loop-less-3 c =
     let a = T (E (J (P (c .before)))) in
-    omega (arith, L a .loop .inv .0 .few-nodes, a .before .before .before .before .before .loop-test .taken)
+    omega (arith, L a .loop .inv .0 .few-nodes, a .before .before .before .before .before .before .before .loop-test .taken)
 
 loop-again-3 : tie.Need-loop-again-3 Inv-loop μ-loop
 loop-again-3 c =
@@ -324,8 +334,22 @@ loop-again-3 c =
     let e = E (J p) in
     let a = T e in
     let l = L a in
-    let h = a .before .before .before .before .before .loop-test .taken in
-    (known-node _ _ (entry (S l)) (here l) _ _ (t a / 34) (t a % 34) (t a) (a .step-at .result) (l .loop .inv .0) (long l) (omega (arith, h)) (omega arith) (omega arith) h (told a) (e .before .before .before .before .before .before .if1 .left) (after p) _ (e .enter .ensures) (J p .before .before .before .before .if2 .left) (pushed p) (c .if3 .left), kept p)
+    let h = a .before .before .before .before .before .before .before .loop-test .taken in
+    (new-node _ _ (entry (S l)) (here l) _ _ (t a / 34) (t a % 34) (t a) (a .step-at .result) (l .loop .inv .0) (long l) (omega (arith, h)) (omega arith) (omega arith) h (told a) (e .before .before .before .before .before .before .if2 .left) (after p) _ (e .enter .ensures) (J p .before .before .before .before .if3 .left) (pushed p) (c .if4 .taken), kept p)
+
+loop-less-4 : tie.Need-loop-less-4 Inv-loop μ-loop
+loop-less-4 c =
+    let a = T (E (J (P (c .before)))) in
+    omega (arith, L a .loop .inv .0 .few-nodes, a .before .before .before .before .before .before .before .loop-test .taken)
+
+loop-again-4 : tie.Need-loop-again-4 Inv-loop μ-loop
+loop-again-4 c =
+    let p = P (c .before) in
+    let e = E (J p) in
+    let a = T e in
+    let l = L a in
+    let h = a .before .before .before .before .before .before .before .loop-test .taken in
+    (known-node _ _ (entry (S l)) (here l) _ _ (t a / 34) (t a % 34) (t a) (a .step-at .result) (l .loop .inv .0) (long l) (omega (arith, h)) (omega arith) (omega arith) h (told a) (e .before .before .before .before .before .before .if2 .left) (after p) _ (e .enter .ensures) (J p .before .before .before .before .if3 .left) (pushed p) (c .if4 .left), kept p)
 
 same-length-10 : tie.Need-same-length-10 Inv-loop μ-loop
 same-length-10 c = omega (arith, c .before .loop .inv .1 .nodes, length-set (now (S (c .before) .args .nodes)) 0 0)
@@ -377,12 +401,15 @@ search-spec =
     slice-read-x
     mul-edge
     array-copy-out-edge
+    elsewhere-requires
+    loop-less
+    loop-again
     location-of-requires
     mul-location
     array-copy-out-location
     step-at-requires
-    loop-less
-    loop-again
+    loop-less-2
+    loop-again-2
     slot-requires
     mul-hint
     array-read-hint
@@ -404,10 +431,10 @@ search-spec =
     mul-hints
     array-write-hints
     add-n
-    loop-less-2
-    loop-again-2
     loop-less-3
     loop-again-3
+    loop-less-4
+    loop-again-4
     same-length-10
     same-length-11
     same-length-12
