@@ -19,9 +19,20 @@ use Rattle.ratio.specs.declared.Verdict.the-variants.{Malformed, NoCycle, NoRew
 use Rattle.ratio.proofs.VerdictLaws.{room}
 use Rattle.contract.specs.Plan.{Answer, refused, Buffers, zeros, SameLengths, Planned}
 use Rattle.planner.specs.Lent.{lent}
-use Rattle.planner.specs.Hands.{Handed, Cyclic}
+use Rattle.planner.specs.Hands.{Handed, Cyclic, Settled}
 
--- a refusal that clears the buffers
+-- ---- what is settled
+module _ {bytes : List ℕ} {before after : Buffers} {a : Answer} where
+  pub settled-refused : (r : ℕ) → a ≡ refused r → 0 < r → Planned bytes before (zeros before) (refused r) → Settled bytes before after a
+  settled-refused r e h w = record {
+    planned = λ z. absurd (omega (arith, ap (λ (x : Answer). x .refusal) e));
+    cleared = λ _. rw (ap (λ (x : Answer). x .refusal) e) w;
+  }
+
+  pub settled-accepted : a .refusal ≡ 0 → Planned bytes before after a → Settled bytes before after a
+  settled-accepted e w = record { planned = λ _. w; cleared = λ n. absurd (n e) }
+
+-- a refusal, once the buffers are cleared
 pub refused-planned : {bytes : List ℕ} {before : Buffers} {N : List ℕ} {P : List ℤ} {S N' : List ℕ} {P' : List ℤ} {S' : List ℕ} {r : ℕ} {a : Answer}
     → SameLengths (lent N P S) before → N' ≡ replicate (length N) 0 → P' ≡ replicate (length P) (pos 0) → S' ≡ replicate (length S) 0 → a ≡ refused r
     → Planned bytes before (zeros before) (refused r) → Planned bytes before (lent N' P' S') a

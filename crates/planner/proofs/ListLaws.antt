@@ -1,11 +1,10 @@
 -- Loops that write a list, a store a turn, whatever its entries are: zeros from a place on, and entries picked from another list.
 use mathlib.Core.Path.{_≡_, refl, sym, ap, _∙_}
-use mathlib.Core.Logic.{_≢_}
 use mathlib.Core.List.{List, [], _++_, append-nil}
 use Prim.Native.Nat.{ℕ, _+_, _-_, _≤_, _<_}
 use native.Mathlib.Omega.{arith}
 use lib.ListN.{length, getD, set, take, drop, replicate, length-set, length-append, length-replicate, getD-replicate, take-append-drop}
-use lib.Seq.{length-take-le, take-at, take-all, drop-length, take-append-le, getD-append-add, getD-take, getD-set-same, getD-set-other}
+use lib.Seq.{length-take-le, take-at, take-all, drop-length, getD-append-add, getD-take, getD-set-same, getD-set-other}
 use Rattle.automaton.proofs.Tests.{by-order}
 use Rattle.walks.specs.Walk.{at}
 use Rattle.walks.proofs.Copies.{copy-more}

@@ -25,17 +25,20 @@ abbrev pub fresh : List ℕ → Buffers
 fresh N = buffers (replicate 2048 0) N (replicate 2048 0) (replicate 2048 0)
     (replicate 69632 0) (replicate 69632 0) (replicate 69632 0) (replicate 69632 (pos 0)) (replicate 69632 0)
 
+at-least : {A : Type 0} (n : ℕ) (x : A) → n ≤ length (replicate n x)
+at-least n x = omega (arith, length-replicate n x)
+
 pub fresh-long : (N : List ℕ) → 2048 ≤ length N → LongEnough (fresh N)
 fresh-long N h = record {
-  node = omega (arith, length-replicate {A = ℕ} 2048 0);
+  node = at-least {A = ℕ} 2048 0;
   sorted = h;
-  order = omega (arith, length-replicate {A = ℕ} 2048 0);
-  tree = omega (arith, length-replicate {A = ℕ} 2048 0);
-  from = omega (arith, length-replicate {A = ℕ} 69632 0);
-  to = omega (arith, length-replicate {A = ℕ} 69632 0);
-  code = omega (arith, length-replicate {A = ℕ} 69632 0);
-  cost = omega (arith, length-replicate {A = ℤ} 69632 (pos 0));
-  reward = omega (arith, length-replicate {A = ℕ} 69632 0);
+  order = at-least {A = ℕ} 2048 0;
+  tree = at-least {A = ℕ} 2048 0;
+  from = at-least {A = ℕ} 69632 0;
+  to = at-least {A = ℕ} 69632 0;
+  code = at-least {A = ℕ} 69632 0;
+  cost = at-least 69632 (pos 0);
+  reward = at-least {A = ℕ} 69632 0;
 }
 
 module _ (read : Sheet) (N : List ℕ) (b : Buffers) (A : Outcome) (z : Answered (stepRead read) (startRead read) (fresh N) b A) where

@@ -1,4 +1,4 @@
--- What the private functions are handed, and what they promise each other.
+-- What the private functions are handed, and what they promise each other. Only private functions go by this file.
 use mathlib.Core.Path.{_≡_}
 use mathlib.Core.List.{List, _++_}
 use Prim.Native.Nat.{ℕ, _-_, _≤_, _<_}
@@ -12,7 +12,7 @@ use Rattle.walks.specs.Form.{Graph}
 use Rattle.walks.specs.Cycles.{SimpleCycle}
 use Rattle.lasso.specs.Answer as Lasso
 use Rattle.ratio.specs.Answer.{RatioFound}
-use Rattle.contract.specs.Plan.{Buffers, LongEnough, SameLengths, stepOn, startOf}
+use Rattle.contract.specs.Plan.{Answer, refused, Buffers, zeros, LongEnough, SameLengths, Planned, stepOn, startOf}
 use Rattle.contract.specs.Explored.{Found, Explored, Sorted}
 
 -- ---- lists that are written
@@ -81,3 +81,10 @@ pub record Solved (F T C order : List ℕ) (D : List ℤ) (cycle : List ℕ) (n 
   pub potential : List ℤ
   pub arcs : List ℕ
   pub least : RatioFound F T cost reward n p q k potential D arcs cycle
+
+-- ---- what the plan comes to
+
+-- an accepted plan stands in the buffers; for a refusal they are still to be cleared
+pub record Settled (bytes : List ℕ) (before after : Buffers) (a : Answer) : Type 0 where
+  pub planned : a .refusal ≡ 0 → Planned bytes before after a
+  pub cleared : (a .refusal ≡ 0 → ⊥) → Planned bytes before (zeros before) (refused (a .refusal))

@@ -1,9 +1,9 @@
 // The plan of an explored graph: questions 13 and 14, and what is written where they are answered yes.
 ghost use Prim.Native.Nat.{_≤_};
 ghost use lib.ListN.{length};
-ghost use Rattle.contract.specs.Plan.{LongEnough, Planned};
+ghost use Rattle.contract.specs.Plan.{LongEnough};
 ghost use Rattle.planner.specs.Lent.{lent, answerOf};
-ghost use Rattle.planner.specs.Hands.{Handed, OfSheet, Cyclic, Solved};
+ghost use Rattle.planner.specs.Hands.{Handed, OfSheet, Cyclic, Solved, Settled};
 use crate::Answer;
 use ratio::Verdict;
 
@@ -28,7 +28,7 @@ fn accept(
         ⌜ n ≤ length (now least) ⌝ ∗ ⌜ q ≤ 20480000 ⌝ ∗ ⌜ LongEnough (lent (now nodes) (now potentials) (now steps)) ⌝ }
     ensures { λ r. ⌜ ((o : Solved (now (from .entry)) (now (to .entry)) (now (code .entry)) (now (order .entry)) (now (least .entry)) (now (cycle .entry)) n k p q
         (lent (now (nodes .entry)) (now (potentials .entry)) (now (steps .entry))))
-        → Planned (o .of-sheet .bytes) (o .of-sheet .before) (lent (now (nodes .exit)) (now (potentials .exit)) (now (steps .exit))) (answerOf r)) ⌝ }
+        → Settled (o .of-sheet .bytes) (o .of-sheet .before) (lent (now (nodes .exit)) (now (potentials .exit)) (now (steps .exit))) (answerOf r)) ⌝ }
 {
     let mut arcs = [0usize; 4096];
     let laid = lasso::lasso_of(from, to, tree, n, cycle, k, &mut arcs);
@@ -62,14 +62,14 @@ pub(crate) fn plan_graph(
         ⌜ LongEnough (lent (now nodes) (now potentials) (now steps)) ⌝ }
     ensures { λ r. ⌜ ((o : OfSheet (now (from .entry)) (now (to .entry)) (now (code .entry)) (now (cost .entry)) (now (reward .entry)) (now (order .entry)) n
         (lent (now (nodes .entry)) (now (potentials .entry)) (now (steps .entry))))
-        → Planned (o .bytes) (o .before) (lent (now (nodes .exit)) (now (potentials .exit)) (now (steps .exit))) (answerOf r)) ⌝ }
+        → Settled (o .bytes) (o .before) (lent (now (nodes .exit)) (now (potentials .exit)) (now (steps .exit))) (answerOf r)) ⌝ }
 {
     let mut least = [0i64; 2048];
     let mut cycle = [0usize; 2048];
     let verdict = ratio::least_ratio(from, to, cost, reward, n, &mut least, &mut cycle);
     match verdict {
-        Verdict::NoCycle => crate::output::refuse(13, nodes, potentials, steps),
-        Verdict::NoReward => crate::output::refuse(14, nodes, potentials, steps),
+        Verdict::NoCycle => crate::output::refused(13),
+        Verdict::NoReward => crate::output::refused(14),
         Verdict::Ratio(p, q, k) => accept(
             from,
             to,

@@ -35,5 +35,9 @@ pub fn plan(sheet: &[u8], nodes: &mut [u32], potentials: &mut [i64], steps: &mut
     if refusal != 0 {
         return output::refused(refusal);
     }
-    sheets::plan_read(read, nodes, potentials, steps)
+    let answer = sheets::plan_read(read, nodes, potentials, steps);
+    if answer.refusal != 0 {
+        return output::refuse(answer.refusal, nodes, potentials, steps);
+    }
+    answer
 }

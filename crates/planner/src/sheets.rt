@@ -1,7 +1,7 @@
 // The plan of a decoded sheet: question 12, and what follows.
-ghost use Rattle.contract.specs.Plan.{LongEnough, Planned};
+ghost use Rattle.contract.specs.Plan.{LongEnough};
 ghost use Rattle.planner.specs.Lent.{lent, answerOf};
-ghost use Rattle.planner.specs.Hands.{ReadFrom};
+ghost use Rattle.planner.specs.Hands.{ReadFrom, Settled};
 use crate::Answer;
 use explore::Outcome;
 use sheet::Sheet;
@@ -13,7 +13,7 @@ pub(crate) fn plan_read(
     steps: &mut [u16],
 ) -> Answer
     requires { ⌜ ReadFrom read ⌝ ∗ ⌜ LongEnough (lent (now nodes) (now potentials) (now steps)) ⌝ }
-    ensures { λ r. ⌜ ((o : ReadFrom read) → Planned (o .bytes) (lent (now (nodes .entry)) (now (potentials .entry)) (now (steps .entry)))
+    ensures { λ r. ⌜ ((o : ReadFrom read) → Settled (o .bytes) (lent (now (nodes .entry)) (now (potentials .entry)) (now (steps .entry)))
         (lent (now (nodes .exit)) (now (potentials .exit)) (now (steps .exit))) (answerOf r)) ⌝ }
 {
     let mut found = [0u32; 2048];
@@ -37,7 +37,7 @@ pub(crate) fn plan_read(
         &mut reward,
     );
     match outcome {
-        Outcome::TooMany => crate::output::refuse(12, nodes, potentials, steps),
+        Outcome::TooMany => crate::output::refused(12),
         Outcome::Graph(n, m) => crate::graphs::plan_graph(
             &from[..m],
             &to[..m],

@@ -5,9 +5,11 @@ use denote.Ref.{now}
 use Rattle.sheet.specs.declared.Sheet.{Sheet}
 use Rattle.sheet.specs.Questions.{checkOf}
 use Rattle.nodes.proofs.DecodedLaws.{read-refusal}
-use Rattle.contract.specs.Plan.{Buffers}
+use Rattle.contract.specs.Plan.{Buffers, SameLengths}
 use Rattle.contract.proofs.Exits.{short-buffer, faulty-sheet}
-use Rattle.planner.specs.Lent.{lent}
+use Rattle.planner.specs.Lent.{lent, answerOf}
+use Rattle.planner.specs.Hands.{Settled}
+use Rattle.planner.proofs.GraphLaws.{refused-planned}
 use borrow.Author.Needs.{needs}
 use Rattle.planner.proofs.plan.Statement.{statement}
 use Rattle.planner.proofs.plan.Tie as tie
@@ -22,6 +24,19 @@ before s = lent (now (s .args .nodes)) (now (s .args .potentials)) (now (s .args
 
 refusal : (c : tie.After-read) → c .read .result .refusal ≡ checkOf (now (S c .args .sheet))
 refusal c = ap (λ (x : Sheet). x .refusal) (c .read .ensures) ∙ read-refusal (now (S c .args .sheet))
+
+-- the same after the plan of the sheet that was read, and what is settled then
+abbrev R : tie.After-plan-read → tie.After-read
+R c = c .before .before .before .before .before
+
+abbrev after : tie.After-plan-read → Buffers
+after c = let l = c .plan-read .last .1 in lent (l .0) (l .1 .0) (l .1 .1 .0)
+
+same : (c : tie.After-plan-read) → SameLengths (after c) (before (S (R c)))
+same c = let k = c .plan-read .kept .1 in record { nodes = k .0; potentials = k .1 .0; steps = k .1 .1 .0 }
+
+settled : (c : tie.After-plan-read) → Settled (now (S (R c) .args .sheet)) (before (S (R c))) (after c) (answerOf (c .plan-read .result))
+settled c = c .plan-read .ensures (record { bytes = now (S (R c) .args .sheet); checked = omega (arith, refusal (R c)); is = R c .read .ensures })
 
 refused-requires : tie.Need-refused-requires
 refused-requires c κs = search needs
@@ -65,6 +80,9 @@ plan-read-requires c κs =
     let r = c .before .before .before .before in
     (record { bytes = now (S r .args .sheet); checked = omega (arith, refusal r); is = r .read .ensures }, record { nodes = omega arith; potentials = omega arith; steps = omega arith })
 
+refuse-requires : tie.Need-refuse-requires
+refuse-requires c κs = search needs
+
 same-length : tie.Need-same-length
 same-length c = search needs
 
@@ -76,9 +94,23 @@ same-length-3 c = search needs
 
 returns-5 : tie.Need-returns-5
 returns-5 c =
-    let p = c .before .before .before .before .before in
-    let r = p .before .before .before .before .before in
-    p .plan-read .ensures (record { bytes = now (S r .args .sheet); checked = omega (arith, refusal r); is = r .read .ensures })
+    let f = c .before .before .before .before .before in
+    let w = f .refuse .ensures in
+    let p = f .before .before .before .before .before .before .before .before .before .before .before in
+    refused-planned (same p) (w .1 .0) (w .1 .1 .0) (w .1 .1 .1) (w .0)
+    (settled p .cleared (f .before .before .before .before .if5 .taken))
+
+same-length-4 : tie.Need-same-length-4
+same-length-4 c = search needs
+
+same-length-5 : tie.Need-same-length-5
+same-length-5 c = search needs
+
+same-length-6 : tie.Need-same-length-6
+same-length-6 c = search needs
+
+returns-6 : tie.Need-returns-6
+returns-6 c = settled (c .before .before .before .before .before .before .before) .planned (c .if5 .left)
 
 pub plan-spec : {M : Type 1} → statement M
 plan-spec =
@@ -94,7 +126,12 @@ plan-spec =
     refused-requires-4
     returns-4
     plan-read-requires
+    refuse-requires
     same-length
     same-length-2
     same-length-3
-    returns-5)
+    returns-5
+    same-length-4
+    same-length-5
+    same-length-6
+    returns-6)

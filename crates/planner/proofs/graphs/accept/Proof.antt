@@ -9,8 +9,10 @@ use lib.ListN.{length, replicate}
 use mir.Syntax.{w64}
 use mir.ValLaws.{toZ-ofZ}
 use Rattle.lasso.specs.Answer.{LaidOut}
+use Rattle.contract.specs.Plan.{Answer}
 use Rattle.planner.specs.Lent.{accepted}
 use Rattle.planner.proofs.AcceptLaws.{accepted-planned}
+use Rattle.planner.proofs.GraphLaws.{settled-accepted}
 use Rattle.planner.proofs.LassoLaws.{short, codes-pickable, never, laid-of}
 use borrow.Author.Needs.{needs}
 use Rattle.planner.proofs.graphs.accept.Statement.{statement}
@@ -137,9 +139,10 @@ returns-2 c =
     let p = P (e .before) in
     let v = K p in
     let s = S (L v) in
-    λ o. accepted-planned (s .pre .0) (s .pre .1 .1 .1) (sized (L v)) (laid v) (p .permute .ensures) (e .encode .ensures) o
-    (p .before .before .before .before .clear-nodes .ensures) (e .before .before .before .before .clear-potentials .ensures) (c .before .before .before .clear-steps .ensures)
-    (c .accepted .ensures ∙ ap (λ (z : ℤ). accepted z (s .args .q) (s .args .n) (v .laid .given .0 .0) (s .args .k)) (toZ-ofZ w64 (s .args .p) (s .fits .p)))
+    let is = c .accepted .ensures ∙ ap (λ (z : ℤ). accepted z (s .args .q) (s .args .n) (v .laid .given .0 .0) (s .args .k)) (toZ-ofZ w64 (s .args .p) (s .fits .p)) in
+    λ o. settled-accepted (ap (λ (x : Answer). x .refusal) is)
+    (accepted-planned (s .pre .0) (s .pre .1 .1 .1) (sized (L v)) (laid v) (p .permute .ensures) (e .encode .ensures) o
+    (p .before .before .before .before .clear-nodes .ensures) (e .before .before .before .before .clear-potentials .ensures) (c .before .before .before .clear-steps .ensures) is)
 
 pub accept-spec : {M : Type 1} → statement M
 accept-spec =

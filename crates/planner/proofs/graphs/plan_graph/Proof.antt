@@ -3,9 +3,13 @@ use mathlib.Core.List.{List}
 use Prim.Native.Nat.{ℕ}
 use native.Mathlib.Omega.{arith}
 use denote.Ref.{now}
-use lib.IntN.{ℤ}
+use lib.IntN.{ℤ, pos}
+use lib.ListN.{replicate}
+use Rattle.ratio.specs.Answer.{Judged}
+use Rattle.contract.specs.Plan.{Buffers}
 use Rattle.contract.proofs.Exits.{no-cycle-reachable, cycle-earns-nothing}
-use Rattle.planner.proofs.GraphLaws.{refused-planned, never, acyclic, idle, least, least-again, cyclic}
+use Rattle.planner.specs.Lent.{lent}
+use Rattle.planner.proofs.GraphLaws.{settled-refused, never, acyclic, idle, least, least-again, cyclic}
 use borrow.Author.Needs.{needs}
 use Rattle.planner.proofs.graphs.plan_graph.Statement.{statement}
 use Rattle.planner.proofs.graphs.plan_graph.Tie as tie
@@ -22,12 +26,21 @@ L c = c .before .before .before .before
 abbrev S : tie.After-least-ratio → tie.Start
 S c = c .before .before .before .before .before .before .before .before .before .before .before
 
+-- the buffers lent to this function
+abbrev lent-to : tie.Start → Buffers
+lent-to s = lent (now (s .args .nodes)) (now (s .args .potentials)) (now (s .args .steps))
+
 -- the potentials and the cycle as `least_ratio` leaves them
 abbrev D : tie.After-least-ratio → List ℤ
 D c = c .least-ratio .last .1 .1 .1 .1 .1 .0
 
 abbrev cycle : tie.After-least-ratio → List ℕ
 cycle c = c .least-ratio .last .1 .1 .1 .1 .1 .1 .0
+
+-- its answer, told once
+judged : (l : tie.After-least-ratio) → let a = S l .args in
+    Judged (now (a .from)) (now (a .to)) (now (a .cost)) (now (a .reward)) (a .n) (replicate 2048 (pos 0)) (D l) (replicate 2048 0) (cycle l) (l .least-ratio .result)
+judged l = l .least-ratio .ensures
 
 slice-aggregate-least-ratio : tie.Need-slice-aggregate-least-ratio
 slice-aggregate-least-ratio c = search needs
@@ -41,14 +54,14 @@ least-ratio-requires c κs = search needs
 enum-told : tie.Need-enum-told
 enum-told c = search needs
 
-refuse-requires : tie.Need-refuse-requires
-refuse-requires c κs = search needs
+refused-requires : tie.Need-refused-requires
+refused-requires c κs = search needs
 
 enum-told-2 : tie.Need-enum-told-2
 enum-told-2 c = search needs
 
-refuse-requires-2 : tie.Need-refuse-requires-2
-refuse-requires-2 c κs = search needs
+refused-requires-2 : tie.Need-refused-requires-2
+refused-requires-2 c κs = search needs
 
 enum-known-verdict : tie.Need-enum-known-verdict
 enum-known-verdict c = search needs
@@ -65,15 +78,27 @@ accept-requires c κs =
     let g = v .verdict .given in
     let l = L v in
     let h = S l .pre .0 in
-    let f = least h (D l) (cycle l) (l .least-ratio .result) (l .least-ratio .ensures) (g .0 .0) (g .0 .1 .0) (g .0 .1 .1 .0) (g .1) in
-    let r = cyclic h (D l) (cycle l) (l .least-ratio .result) (l .least-ratio .ensures) (g .0 .0) (g .0 .1 .0) (g .0 .1 .1 .0) (g .1) (l .least-ratio .kept .1 .1 .1 .1 .1 .1 .0) in
+    let f = least h (D l) (cycle l) (l .least-ratio .result) (judged l) (g .0 .0) (g .0 .1 .0) (g .0 .1 .1 .0) (g .1) in
+    let r = cyclic h (D l) (cycle l) (l .least-ratio .result) (judged l) (g .0 .0) (g .0 .1 .0) (g .0 .1 .1 .0) (g .1) (l .least-ratio .kept .1 .1 .1 .1 .1 .1 .0) in
     (r, (omega (arith, h .graph .nodes, l .least-ratio .kept .1 .1 .1 .1 .1 .0), (f .q-small, S l .pre .1)))
 
 enum-told-3 : tie.Need-enum-told-3
 enum-told-3 c = search needs
 
-refused-requires : tie.Need-refused-requires
-refused-requires c κs = search needs
+refused-requires-3 : tie.Need-refused-requires-3
+refused-requires-3 c κs = search needs
+
+returns : tie.Need-returns
+returns c =
+    let l = c .before .before .before .before .before in
+    λ o. settled-refused {after = lent-to (S l)} 13 (c .refused .ensures) (omega arith) (no-cycle-reachable (o .bytes) (o .before) (o .long) (o .checked) _ (o .explored)
+    (acyclic (S l .pre .0) (D l) (cycle l) (l .least-ratio .result) (judged l) (c .before .enum-told .given .1)))
+
+returns-2 : tie.Need-returns-2
+returns-2 c =
+    let l = c .before .before .before .before .before in
+    λ o. settled-refused {after = lent-to (S l)} 14 (c .refused2 .ensures) (omega arith) (cycle-earns-nothing (o .bytes) (o .before) (o .long) (o .checked) _ (o .explored)
+    (idle (S l .pre .0) (D l) (cycle l) (l .least-ratio .result) (judged l) (c .before .enum-told2 .given .1)))
 
 same-length : tie.Need-same-length
 same-length c = search needs
@@ -83,44 +108,6 @@ same-length-2 c = search needs
 
 same-length-3 : tie.Need-same-length-3
 same-length-3 c = search needs
-
-returns : tie.Need-returns
-returns c =
-    let f = c .before .before .before .before .before in
-    let w = f .refuse .ensures in
-    let e = f .before .before .before .before in
-    let l = e .before .before .before .before in
-    λ o. refused-planned (o .lengths) (w .1 .0) (w .1 .1 .0) (w .1 .1 .1) (w .0)
-    (no-cycle-reachable (o .bytes) (o .before) (o .long) (o .checked) _ (o .explored)
-    (acyclic (S l .pre .0) (D l) (cycle l) (l .least-ratio .result) (l .least-ratio .ensures) (e .enum-told .given .1)))
-
-same-length-4 : tie.Need-same-length-4
-same-length-4 c = search needs
-
-same-length-5 : tie.Need-same-length-5
-same-length-5 c = search needs
-
-same-length-6 : tie.Need-same-length-6
-same-length-6 c = search needs
-
-returns-2 : tie.Need-returns-2
-returns-2 c =
-    let f = c .before .before .before .before .before in
-    let w = f .refuse2 .ensures in
-    let e = f .before .before .before .before in
-    let l = e .before .before .before .before in
-    λ o. refused-planned (o .lengths) (w .1 .0) (w .1 .1 .0) (w .1 .1 .1) (w .0)
-    (cycle-earns-nothing (o .bytes) (o .before) (o .long) (o .checked) _ (o .explored)
-    (idle (S l .pre .0) (D l) (cycle l) (l .least-ratio .result) (l .least-ratio .ensures) (e .enum-told2 .given .1)))
-
-same-length-7 : tie.Need-same-length-7
-same-length-7 c = search needs
-
-same-length-8 : tie.Need-same-length-8
-same-length-8 c = search needs
-
-same-length-9 : tie.Need-same-length-9
-same-length-9 c = search needs
 
 returns-3 : tie.Need-returns-3
 returns-3 c =
@@ -134,13 +121,13 @@ returns-3 c =
       of-sheet = o;
       potential = _;
       arcs = _;
-      least = least-again (S l .pre .0) (D l) (cycle l) (l .least-ratio .result) (l .least-ratio .ensures) (g .0 .0) (g .0 .1 .0) (g .0 .1 .1 .0) (g .1);
+      least = least-again (S l .pre .0) (D l) (cycle l) (l .least-ratio .result) (judged l) (g .0 .0) (g .0 .1 .0) (g .0 .1 .1 .0) (g .1);
     })
 
 returns-4 : tie.Need-returns-4
 returns-4 c =
     let l = c .before .before .before .before .before in
-    absurd (never (S l .pre .0) (D l) (cycle l) (l .least-ratio .result) (l .least-ratio .ensures) (c .before .enum-told3 .given .1))
+    absurd (never (S l .pre .0) (D l) (cycle l) (l .least-ratio .result) (judged l) (c .before .enum-told3 .given .1))
 
 pub plan-graph-spec : {M : Type 1} → statement M
 plan-graph-spec =
@@ -150,25 +137,19 @@ plan-graph-spec =
     slice-aggregate-least-ratio-2
     least-ratio-requires
     enum-told
-    refuse-requires
+    refused-requires
     enum-told-2
-    refuse-requires-2
+    refused-requires-2
     enum-known-verdict
     slice-aggregate-accept
     slice-aggregate-accept-2
     accept-requires
     enum-told-3
-    refused-requires
+    refused-requires-3
+    returns
+    returns-2
     same-length
     same-length-2
     same-length-3
-    returns
-    same-length-4
-    same-length-5
-    same-length-6
-    returns-2
-    same-length-7
-    same-length-8
-    same-length-9
     returns-3
     returns-4)
