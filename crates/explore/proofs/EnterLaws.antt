@@ -32,7 +32,7 @@ module _ (N K I P N' K' I' P' : List ℕ) (n y m j : ℕ) where
   over few (Entered.added a) e = absurd (omega (arith, a .last, a .room))
   over few (Entered.full a) e = a
 
-pub small : (N K I P N' K' I' P' : List ℕ) (n y m j : ℕ) → n ≤ 2048 → Entered N K I P N' K' I' P' n y m j → j ≤ 2048
+pub small : (N K I P N' K' I' P' : List ℕ) (n y m j : ℕ) → n ≤ 2048 → Entered N K I P N' K' I' P' n y m j → j < 65536
 small N K I P N' K' I' P' n y m j few (Entered.known a) = omega (arith, a .below)
 small N K I P N' K' I' P' n y m j few (Entered.added a) = omega (arith, a .last)
 small N K I P N' K' I' P' n y m j few (Entered.full a) = omega (arith, a .last)

@@ -1,6 +1,7 @@
 pub mod StepLaws
 pub mod PlaceLaws
 pub mod IndexLaws
+pub mod CountLaws
 pub mod SearchLaws
 pub mod LengthLaws
 pub mod ArcLaws

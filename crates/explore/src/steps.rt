@@ -22,7 +22,7 @@ pub(crate) fn records(edges: [Edge; 32]) -> [Edge; 32]
 
 // The locations' records at every number that a byte can be, blank ones past the last.
 pub(crate) fn by_byte(locations: [Location; 12]) -> [Location; 256]
-    ensures { λ r. ⌜ ((l : ℕ) → l < 256 → getD r l blankLocation ≡ getD locations l blankLocation) ⌝ }
+    ensures { λ r. ⌜ length r ≡ 256 ⌝ ∗ ⌜ ((l : ℕ) → l < 256 → getD r l blankLocation ≡ getD locations l blankLocation) ⌝ }
 {
     let blank = Location {
         cost: 0,

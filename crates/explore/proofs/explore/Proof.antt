@@ -4,7 +4,6 @@ use denote.Ref.{now}
 use borrow.Author.Tests.{not-true, not-false}
 use Rattle.explore.specs.Buffers.{Buffers, buffers}
 use Rattle.explore.proofs.LengthLaws.{long-of, not-long}
-use borrow.Author.Needs.{needs}
 use Rattle.explore.proofs.explore.Statement.{statement}
 use Rattle.explore.proofs.explore.Tie as tie
 
@@ -14,8 +13,12 @@ entry s =
     buffers (now (s .args .nodes)) (now (s .args .sorted)) (now (s .args .order)) (now (s .args .tree)) (now (s .args .from)) (now (s .args .to))
     (now (s .args .code)) (now (s .args .cost)) (now (s .args .reward))
 
+-- after the search
+abbrev C : tie.After-slice-known16 → tie.After-search
+C c = c .before .before .before .before .before .before .before .before .before .before .before .before .before .before .before .before .before
+
 long-enough-requires : tie.Need-long-enough-requires
-long-enough-requires c κs = search needs
+long-enough-requires c κs = tt
 
 returns : tie.Need-returns
 returns c = (not-long (entry (c .before .before .before .before .before .before .before .before .before .before)) (sym (c .before .long-enough .ensures) ∙ not-true (c .before .long-enough .result) (c .if1 .taken)), refl)
@@ -24,34 +27,34 @@ search-requires : tie.Need-search-requires
 search-requires c κs = long-of (entry (c .before .before .before .before .before .before .before .before .before .before .before .before .before .before .before .before .before .before .before)) (sym (c .before .before .before .before .before .before .before .before .before .before .long-enough .ensures) ∙ not-false (c .before .before .before .before .before .before .before .before .before .before .long-enough .result) (c .before .before .before .before .before .before .before .before .before .if1 .left))
 
 same-length : tie.Need-same-length
-same-length c = search needs
+same-length c = C c .search .kept .1 .0
 
 same-length-2 : tie.Need-same-length-2
-same-length-2 c = search needs
+same-length-2 c = C c .search .kept .1 .1 .0
 
 same-length-3 : tie.Need-same-length-3
-same-length-3 c = search needs
+same-length-3 c = C c .search .kept .1 .1 .1 .0
 
 same-length-4 : tie.Need-same-length-4
-same-length-4 c = search needs
+same-length-4 c = C c .search .kept .1 .1 .1 .1 .0
 
 same-length-5 : tie.Need-same-length-5
-same-length-5 c = search needs
+same-length-5 c = C c .search .kept .1 .1 .1 .1 .1 .0
 
 same-length-6 : tie.Need-same-length-6
-same-length-6 c = search needs
+same-length-6 c = C c .search .kept .1 .1 .1 .1 .1 .1 .0
 
 same-length-7 : tie.Need-same-length-7
-same-length-7 c = search needs
+same-length-7 c = C c .search .kept .1 .1 .1 .1 .1 .1 .1 .0
 
 same-length-8 : tie.Need-same-length-8
-same-length-8 c = search needs
+same-length-8 c = C c .search .kept .1 .1 .1 .1 .1 .1 .1 .1 .0
 
 same-length-9 : tie.Need-same-length-9
-same-length-9 c = search needs
+same-length-9 c = C c .search .kept .1 .1 .1 .1 .1 .1 .1 .1 .1 .0
 
 returns-2 : tie.Need-returns-2
-returns-2 c = c .before .before .before .before .before .before .before .before .before .before .before .before .before .before .before .before .before .search .ensures
+returns-2 c = C c .search .ensures
 
 pub explore-spec : {M : Type 1} → statement M
 explore-spec =

@@ -3,14 +3,14 @@ use borrow.Author.Needs.{needs}
 use native.Mathlib.Omega.{arith}
 use Prim.Native.Nat.{ℕ, _-_, _/_, _%_, _<_}
 use mathlib.Core.Option.{Option}
-use mathlib.Core.Path.{_≡_, refl, ap, _∙_}
+use mathlib.Core.Path.{_≡_, refl, sym, ap, subst, _∙_}
 use mathlib.Core.List.{List}
 use denote.Ref.{now}
 use mir.Syntax.{w16}
 use mir.Val.{toZ, ofZ}
 use mir.ValLaws.{toZ-ofZ}
 use lib.IntN.{ℤ}
-use lib.ListN.{length, getD, set, length-set}
+use lib.ListN.{getD, set, length-set}
 use Rattle.automaton.specs.Priced.{Priced}
 use Rattle.sheet.specs.declared.Edge.{Edge}
 use Rattle.sheet.specs.declared.Sheet.{Sheet}
@@ -23,6 +23,7 @@ use Rattle.step.proofs.SheetLaws.{any-default}
 use Rattle.walks.specs.Walk.{at}
 use Rattle.explore.specs.Buffers.{Buffers, buffers, LongEnough}
 use Rattle.explore.proofs.StepLaws.{start-zero, not-here}
+use Rattle.explore.proofs.CountLaws.{first, within, Counts, counts, turns-fit, edge-place, edge-offset, location-offset, hint-offset}
 use Rattle.explore.proofs.SearchLaws.{Searched, seeded, begin, skip, done, filled}
 use Rattle.explore.proofs.ArcLaws.{Pushed}
 use Rattle.explore.proofs.LengthLaws.{Same, long-kept}
@@ -59,6 +60,9 @@ T c = c .before .before .before .before .before .before .before .before
 abbrev L : tie.After-step-at Inv-loop μ-loop → tie.At-loop Inv-loop μ-loop
 L c = c .before .before .before .before .before .before .before .before
 
+abbrev Q : tie.After-step-at Inv-loop μ-loop → tie.In-loop Inv-loop μ-loop
+Q c = c .before .before .before .before .before .before .before
+
 abbrev S : tie.At-loop Inv-loop μ-loop → tie.Start Inv-loop μ-loop
 S c = c .before .before .before .before .before .before .before .before .before .before .before .before .before
 
@@ -82,6 +86,9 @@ after c =
 long : (c : tie.At-loop Inv-loop μ-loop) → LongEnough (here c)
 long c = long-kept (entry (S c)) (here c) (c .loop .inv .1) (S c .pre)
 
+numbers : (c : tie.In-loop Inv-loop μ-loop) → let l = c .before .loop in Counts (l .n) (l .m) (l .t)
+numbers c = let l = c .before .loop in counts (l .n) (l .m) (l .t) (l .inv .0 .few-nodes) (l .inv .0 .few-arcs) (c .loop-test .taken)
+
 -- ---- turn t, where the step is answered
 
 abbrev E₀ : tie.After-edge Inv-loop μ-loop → tie.At-loop Inv-loop μ-loop
@@ -94,7 +101,7 @@ record-is c d low =
     let k = l .loop .t % 34 in
     let rs = l .before .before .before .records in
     let e : k % 32 ≡ k = omega arith in
-    any-default (rs .result) (k % 32) d blankEdge (omega (arith, rs .ensures .1)) ∙ ap (λ (es : List Edge). getD es (k % 32) blankEdge) (rs .ensures .0)
+    any-default (rs .result) (k % 32) d blankEdge (subst (λ (n : ℕ). k % 32 < n) (sym (rs .ensures .1)) (edge-place (l .loop .t))) ∙ ap (λ (es : List Edge). getD es (k % 32) blankEdge) (rs .ensures .0)
     ∙ ap (edgeIn (S l .args .sheet)) e
 
 module _ (c : tie.After-step-at Inv-loop μ-loop) where
@@ -109,8 +116,7 @@ module _ (c : tie.After-step-at Inv-loop μ-loop) where
       let l = L c in
       let b = l .before .by-byte in
       let p = c .before .before .location-of in
-      let bytes : length (b .result) ≡ 256 = search needs in
-      let location-is = any-default (b .result) (p .result) _ blankLocation (omega (arith, p .ensures .0)) ∙ b .ensures (p .result) (p .ensures .0) in
+      let location-is = any-default (b .result) (p .result) _ blankLocation (subst (λ (n : ℕ). p .result < n) (sym (b .ensures .0)) (p .ensures .0)) ∙ b .ensures .1 (p .result) (p .ensures .0) in
       c .step-at .ensures sheet (record {
         clocks-are = refl;
         edges-are = refl;
@@ -150,19 +156,19 @@ kept p =
     }
 
 records-requires : tie.Need-records-requires Inv-loop μ-loop
-records-requires c κs = search needs
+records-requires c κs = tt
 
 by-byte-requires : tie.Need-by-byte-requires Inv-loop μ-loop
-by-byte-requires c κs = search needs
+by-byte-requires c κs = tt
 
 slice-write-nodes : tie.Need-slice-write-nodes Inv-loop μ-loop
-slice-write-nodes c = search needs
+slice-write-nodes c = first _ (c .before .before .before .before .before .before .before .before .before .before .before .before .pre .node)
 
 slice-write-sorted : tie.Need-slice-write-sorted Inv-loop μ-loop
-slice-write-sorted c = search needs
+slice-write-sorted c = first _ (c .before .before .before .before .before .before .before .before .before .before .before .before .pre .sorted)
 
 slice-write-order : tie.Need-slice-write-order Inv-loop μ-loop
-slice-write-order c = search needs
+slice-write-order c = first _ (c .before .before .before .before .before .before .before .before .before .before .before .before .pre .order)
 
 loop-holds : tie.Need-loop-holds Inv-loop μ-loop
 loop-holds c =
@@ -172,68 +178,69 @@ loop-holds c =
     )
 
 mul-loop : tie.Need-mul-loop Inv-loop μ-loop
-mul-loop c = search needs
+mul-loop c = turns-fit _ (c .loop .inv .0 .few-nodes)
 
 add-t : tie.Need-add-t Inv-loop μ-loop
-add-t c = search needs
+add-t c = numbers c .next-turn
 
 mul-x : tie.Need-mul-x Inv-loop μ-loop
-mul-x c = search needs
+mul-x c = numbers c .node-offset
 
 slice-read-x : tie.Need-slice-read-x Inv-loop μ-loop
-slice-read-x c = omega (arith, long (c .before .before) .node, c .before .before .loop .inv .0 .few-nodes, c .before .loop-test .taken)
+slice-read-x c = within _ 2048 _ (numbers (c .before) .node-in) (long (c .before .before) .node)
 
 mul-edge : tie.Need-mul-edge Inv-loop μ-loop
-mul-edge c = search needs
+mul-edge c = edge-offset (c .before .before .loop .t)
 
 array-copy-out-edge : tie.Need-array-copy-out-edge Inv-loop μ-loop
-array-copy-out-edge c = search needs
+array-copy-out-edge c = edge-place (c .before .before .loop .t)
 
 elsewhere-requires : tie.Need-elsewhere-requires Inv-loop μ-loop
-elsewhere-requires c κs = search needs
+elsewhere-requires c κs = tt
 
 loop-less : tie.Need-loop-less Inv-loop μ-loop
-loop-less c = search needs
+loop-less c = numbers (c .before .before .before .before) .less
 
 loop-again : tie.Need-loop-again Inv-loop μ-loop
 loop-again c =
     let l = E₀ (c .before .before) in
     let i = l .loop .inv in
     let t = l .loop .t in
+    let k = numbers (c .before .before .before .before) in
     let h = c .before .elsewhere .ensures (c .if1 .taken) in
     let p = not-here (S l .args .sheet) (at (l .loop .nodes) (t / 34)) (t % 34) (h .0) (λ e. h .1 (ap (λ (r : Edge). r .source) (record-is (c .before .before) _ (h .0)) ∙ e)) in
-    (skip _ _ _ (here l) _ _ (t / 34) (t % 34) t (i .0) (omega arith) (omega arith) (c .before .before .before .before .loop-test .taken) p, i .1)
+    (skip _ _ _ (here l) _ _ (t / 34) (t % 34) t (i .0) (k .code) (k .turn) (c .before .before .before .before .loop-test .taken) p, i .1)
 
 location-of-requires : tie.Need-location-of-requires Inv-loop μ-loop
-location-of-requires c κs = search needs
+location-of-requires c κs = tt
 
 mul-location : tie.Need-mul-location Inv-loop μ-loop
-mul-location c = search needs
+mul-location c = location-offset _ (c .location-of .ensures .0)
 
 array-copy-out-location : tie.Need-array-copy-out-location Inv-loop μ-loop
-array-copy-out-location c = search needs
+array-copy-out-location c = c .location-of .ensures .0
 
 step-at-requires : tie.Need-step-at-requires Inv-loop μ-loop
-step-at-requires c κs = search needs
+step-at-requires c κs = numbers (c .before .before .before .before .before .before) .code
 
 loop-less-2 : tie.Need-loop-less-2 Inv-loop μ-loop
-loop-less-2 c = search needs
+loop-less-2 c = numbers (Q (c .before .before)) .less
 
 loop-again-2 : tie.Need-loop-again-2 Inv-loop μ-loop
 loop-again-2 c =
     let a = c .before .before in
     let l = L a in
-    let h = a .before .before .before .before .before .before .before .loop-test .taken in
-    (no-arc _ _ (entry (S l)) (here l) _ _ (t a / 34) (t a % 34) (t a) (a .step-at .result) (l .loop .inv .0) (long l) (omega (arith, h)) (omega arith) (omega arith) h (told a) (c .if2 .taken), l .loop .inv .1)
+    let k = numbers (Q a) in
+    (no-arc _ _ (entry (S l)) (here l) _ _ (t a / 34) (t a % 34) (t a) (a .step-at .result) (l .loop .inv .0) (long l) (k .node) (k .code) (k .turn) (Q a .loop-test .taken) (told a) (c .if2 .taken), l .loop .inv .1)
 
 slot-requires : tie.Need-slot-requires Inv-loop μ-loop
-slot-requires c κs = search needs
+slot-requires c κs = tt
 
 mul-hint : tie.Need-mul-hint Inv-loop μ-loop
-mul-hint c = search needs
+mul-hint c = hint-offset _ (c .slot .ensures)
 
 array-read-hint : tie.Need-array-read-hint Inv-loop μ-loop
-array-read-hint c = search needs
+array-read-hint c = c .slot .ensures
 
 enter-requires : tie.Need-enter-requires Inv-loop μ-loop
 enter-requires c κs =
@@ -243,19 +250,13 @@ enter-requires c κs =
     (g .index, (g .few-nodes, (r .node, (r .sorted, (r .order, r .tree)))))
 
 same-length : tie.Need-same-length Inv-loop μ-loop
-same-length c =
-    let e = c .before .before .before .before .before .before .before .before .before in
-    omega (arith, e .enter .kept .0, L (T e) .loop .inv .1 .nodes, length-set (now (S (L (T e)) .args .nodes)) 0 0)
+same-length c = let e = c .before .before .before .before .before .before .before .before .before in e .enter .kept .0 ∙ L (T e) .loop .inv .1 .nodes ∙ length-set (now (S (L (T e)) .args .nodes)) 0 0
 
 same-length-2 : tie.Need-same-length-2 Inv-loop μ-loop
-same-length-2 c =
-    let e = c .before .before .before .before .before .before .before .before .before in
-    omega (arith, e .enter .kept .1 .0, L (T e) .loop .inv .1 .sorted, length-set (now (S (L (T e)) .args .sorted)) 0 0)
+same-length-2 c = let e = c .before .before .before .before .before .before .before .before .before in e .enter .kept .1 .0 ∙ L (T e) .loop .inv .1 .sorted ∙ length-set (now (S (L (T e)) .args .sorted)) 0 0
 
 same-length-3 : tie.Need-same-length-3 Inv-loop μ-loop
-same-length-3 c =
-    let e = c .before .before .before .before .before .before .before .before .before in
-    omega (arith, e .enter .kept .1 .1 .0, L (T e) .loop .inv .1 .order, length-set (now (S (L (T e)) .args .order)) 0 0)
+same-length-3 c = let e = c .before .before .before .before .before .before .before .before .before in e .enter .kept .1 .1 .0 ∙ L (T e) .loop .inv .1 .order ∙ length-set (now (S (L (T e)) .args .order)) 0 0
 
 same-length-4 : tie.Need-same-length-4 Inv-loop μ-loop
 same-length-4 c = let e = c .before .before .before .before .before .before .before .before .before in e .enter .kept .1 .1 .1 .0 ∙ L (T e) .loop .inv .1 .tree
@@ -280,53 +281,40 @@ returns c =
     let e = c .before .before .before .before .before .before .before .before .before in
     let a = T e in
     let l = L a in
-    let h = a .before .before .before .before .before .before .before .loop-test .taken in
-    (S l .pre, stopped _ _ (entry (S l)) (here l) _ _ (t a / 34) (t a % 34) (t a) (a .step-at .result) (l .loop .inv .0) (long l) (omega (arith, h)) (omega arith) (omega arith) h (told a) (e .before .before .before .before .before .before .if2 .left) _ _ _ _ _ (e .enter .ensures) (c .if3 .taken))
+    let k = numbers (Q a) in
+    (S l .pre, stopped _ _ (entry (S l)) (here l) _ _ (t a / 34) (t a % 34) (t a) (a .step-at .result) (l .loop .inv .0) (long l) (k .node) (k .code) (k .turn) (Q a .loop-test .taken) (told a) (e .before .before .before .before .before .before .if2 .left) _ _ _ _ _ (e .enter .ensures) (c .if3 .taken))
 
 join-requires : tie.Need-join-requires Inv-loop μ-loop
 join-requires c κs =
     let e = c .before .before .before .before .before .before .before .before .before .before .before .before in
-    let a = T e in
-    let l = L a in
-    let r = long l in
-    let few : l .loop .m < 69632 = omega (arith, l .loop .inv .0 .few-arcs, l .loop .inv .0 .few-nodes, a .before .before .before .before .before .before .before .loop-test .taken) in
-    let n = l .loop .inv .0 .few-nodes in (
-      omega (arith, r .from),
-      (
-        omega (arith, r .to),
-        (omega (arith, r .code), (omega (arith, n, a .before .before .before .before .before .before .before .loop-test .taken), (omega (arith, small _ _ _ _ _ _ _ _ _ _ _ _ n (e .enter .ensures)), omega arith))),
-      ),
-    )
+    let k = numbers (Q (T e)) in
+    let r = long (L (T e)) in
+    let j = small _ _ _ _ _ _ _ _ _ _ _ _ (L (T e) .loop .inv .0 .few-nodes) (e .enter .ensures) in
+    (within _ 69632 _ (k .arcs) (r .from), (within _ 69632 _ (k .arcs) (r .to), (within _ 69632 _ (k .arcs) (r .code), (k .node-low, (j, k .code-low)))))
 
 price-requires : tie.Need-price-requires Inv-loop μ-loop
 price-requires c κs =
     let a = T (E (c .before .before .before .before .before .before .before .before .before)) in
-    let l = L a in
-    let few : l .loop .m < 69632 = omega (arith, l .loop .inv .0 .few-arcs, l .loop .inv .0 .few-nodes, a .before .before .before .before .before .before .before .loop-test .taken) in
-    (omega (arith, long l .cost), omega (arith, long l .reward))
+    let k = numbers (Q a) in
+    (within _ 69632 _ (k .arcs) (long (L a) .cost), within _ 69632 _ (k .arcs) (long (L a) .reward))
 
 add-m : tie.Need-add-m Inv-loop μ-loop
-add-m c =
-    let a = T (E (J (P c))) in
-    let g = L a .loop .inv .0 in
-    record { fits = omega (arith, g .few-arcs, g .few-nodes, a .before .before .before .before .before .before .before .loop-test .taken) }
+add-m c = numbers (Q (T (E (J (P c))))) .next-arc
 
 cast-hints : tie.Need-cast-hints Inv-loop μ-loop
-cast-hints c = record { fits = omega (arith, L (T (E (J (P (c .before))))) .loop .inv .0 .few-nodes) }
+cast-hints c = numbers (Q (T (E (J (P (c .before)))))) .hint
 
 mul-hints : tie.Need-mul-hints Inv-loop μ-loop
-mul-hints c = search needs
+mul-hints c = hint-offset _ (c .before .before .before .before .before .before .before .before .before .before .before .before .before .before .before .before .before .before .before .before .before .before .before .before .before .before .before .before .before .before .before .before .slot .ensures)
 
 array-write-hints : tie.Need-array-write-hints Inv-loop μ-loop
-array-write-hints c = search needs
+array-write-hints c = c .before .before .before .before .before .before .before .before .before .before .before .before .before .before .before .before .before .before .before .before .before .before .before .before .before .before .before .before .before .before .before .before .slot .ensures
 
 add-n : tie.Need-add-n Inv-loop μ-loop
-add-n c = record { fits = omega (arith, L (T (E (J (P (c .before))))) .loop .inv .0 .few-nodes) }
+add-n c = numbers (Q (T (E (J (P (c .before)))))) .next-node
 
 loop-less-3 : tie.Need-loop-less-3 Inv-loop μ-loop
-loop-less-3 c =
-    let a = T (E (J (P (c .before)))) in
-    omega (arith, L a .loop .inv .0 .few-nodes, a .before .before .before .before .before .before .before .loop-test .taken)
+loop-less-3 c = numbers (Q (T (E (J (P (c .before)))))) .less
 
 loop-again-3 : tie.Need-loop-again-3 Inv-loop μ-loop
 loop-again-3 c =
@@ -334,13 +322,11 @@ loop-again-3 c =
     let e = E (J p) in
     let a = T e in
     let l = L a in
-    let h = a .before .before .before .before .before .before .before .loop-test .taken in
-    (new-node _ _ (entry (S l)) (here l) _ _ (t a / 34) (t a % 34) (t a) (a .step-at .result) (l .loop .inv .0) (long l) (omega (arith, h)) (omega arith) (omega arith) h (told a) (e .before .before .before .before .before .before .if2 .left) (after p) _ (e .enter .ensures) (J p .before .before .before .before .if3 .left) (pushed p) (c .if4 .taken), kept p)
+    let k = numbers (Q a) in
+    (new-node _ _ (entry (S l)) (here l) _ _ (t a / 34) (t a % 34) (t a) (a .step-at .result) (l .loop .inv .0) (long l) (k .node) (k .code) (k .turn) (Q a .loop-test .taken) (told a) (e .before .before .before .before .before .before .if2 .left) (after p) _ (e .enter .ensures) (J p .before .before .before .before .if3 .left) (pushed p) (c .if4 .taken), kept p)
 
 loop-less-4 : tie.Need-loop-less-4 Inv-loop μ-loop
-loop-less-4 c =
-    let a = T (E (J (P (c .before)))) in
-    omega (arith, L a .loop .inv .0 .few-nodes, a .before .before .before .before .before .before .before .loop-test .taken)
+loop-less-4 c = numbers (Q (T (E (J (P (c .before)))))) .less
 
 loop-again-4 : tie.Need-loop-again-4 Inv-loop μ-loop
 loop-again-4 c =
@@ -348,35 +334,35 @@ loop-again-4 c =
     let e = E (J p) in
     let a = T e in
     let l = L a in
-    let h = a .before .before .before .before .before .before .before .loop-test .taken in
-    (known-node _ _ (entry (S l)) (here l) _ _ (t a / 34) (t a % 34) (t a) (a .step-at .result) (l .loop .inv .0) (long l) (omega (arith, h)) (omega arith) (omega arith) h (told a) (e .before .before .before .before .before .before .if2 .left) (after p) _ (e .enter .ensures) (J p .before .before .before .before .if3 .left) (pushed p) (c .if4 .left), kept p)
+    let k = numbers (Q a) in
+    (known-node _ _ (entry (S l)) (here l) _ _ (t a / 34) (t a % 34) (t a) (a .step-at .result) (l .loop .inv .0) (long l) (k .node) (k .code) (k .turn) (Q a .loop-test .taken) (told a) (e .before .before .before .before .before .before .if2 .left) (after p) _ (e .enter .ensures) (J p .before .before .before .before .if3 .left) (pushed p) (c .if4 .left), kept p)
 
 same-length-10 : tie.Need-same-length-10 Inv-loop μ-loop
-same-length-10 c = omega (arith, c .before .loop .inv .1 .nodes, length-set (now (S (c .before) .args .nodes)) 0 0)
+same-length-10 c = c .before .loop .inv .1 .nodes ∙ length-set (now (S (c .before) .args .nodes)) 0 0
 
 same-length-11 : tie.Need-same-length-11 Inv-loop μ-loop
-same-length-11 c = omega (arith, c .before .loop .inv .1 .sorted, length-set (now (S (c .before) .args .sorted)) 0 0)
+same-length-11 c = c .before .loop .inv .1 .sorted ∙ length-set (now (S (c .before) .args .sorted)) 0 0
 
 same-length-12 : tie.Need-same-length-12 Inv-loop μ-loop
-same-length-12 c = omega (arith, c .before .loop .inv .1 .order, length-set (now (S (c .before) .args .order)) 0 0)
+same-length-12 c = c .before .loop .inv .1 .order ∙ length-set (now (S (c .before) .args .order)) 0 0
 
 same-length-13 : tie.Need-same-length-13 Inv-loop μ-loop
-same-length-13 c = search needs
+same-length-13 c = c .before .loop .inv .1 .tree
 
 same-length-14 : tie.Need-same-length-14 Inv-loop μ-loop
-same-length-14 c = search needs
+same-length-14 c = c .before .loop .inv .1 .from
 
 same-length-15 : tie.Need-same-length-15 Inv-loop μ-loop
-same-length-15 c = search needs
+same-length-15 c = c .before .loop .inv .1 .to
 
 same-length-16 : tie.Need-same-length-16 Inv-loop μ-loop
-same-length-16 c = search needs
+same-length-16 c = c .before .loop .inv .1 .code
 
 same-length-17 : tie.Need-same-length-17 Inv-loop μ-loop
-same-length-17 c = search needs
+same-length-17 c = c .before .loop .inv .1 .cost
 
 same-length-18 : tie.Need-same-length-18 Inv-loop μ-loop
-same-length-18 c = search needs
+same-length-18 c = c .before .loop .inv .1 .reward
 
 returns-2 : tie.Need-returns-2 Inv-loop μ-loop
 returns-2 c =

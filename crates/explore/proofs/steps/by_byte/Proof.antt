@@ -50,7 +50,7 @@ returns c =
     let l = c .before .loop in
     let n : length (a .t1) ≡ 12 = search needs in
     let e : l .i ≡ length (a .t1) = omega arith in
-    copied-all blankLocation (a .t1) 256 (l .all) (subst (Copied blankLocation (a .t1) (l .all) 256) e (l .inv .1))
+    (l .inv .1 .sized, copied-all blankLocation (a .t1) 256 (l .all) (subst (Copied blankLocation (a .t1) (l .all) 256) e (l .inv .1)))
 
 pub by-byte-spec : {M : Type 1} → statement M
 by-byte-spec =
