@@ -23,7 +23,6 @@ pub record Counts (n m t : ℕ) : Type 0 where
   pub less : 69632 - (t + 1) < 69632 - t
   pub node-offset : Fits w64 (t / 34 * 4)
   pub next-turn : Fits w64 (t + 1)
-  pub next-arc : Fits w64 (m + 1)
   pub next-node : Fits w64 (n + 1)
   pub hint : Fits w16 n
 
@@ -39,7 +38,6 @@ counts n m t few arcs taken = record {
   less = omega arith;
   node-offset = record { fits = omega arith };
   next-turn = record { fits = omega arith };
-  next-arc = record { fits = omega arith };
   next-node = record { fits = omega arith };
   hint = record { fits = omega arith };
 }

@@ -299,7 +299,7 @@ price-requires c κs =
     (within _ 69632 _ (k .arcs) (long (L a) .cost), within _ 69632 _ (k .arcs) (long (L a) .reward))
 
 add-m : tie.Need-add-m Inv-loop μ-loop
-add-m c = numbers (Q (T (E (J (P c))))) .next-arc
+add-m c = record { fits = omega (arith, numbers (Q (T (E (J (P c))))) .arcs) }
 
 cast-hints : tie.Need-cast-hints Inv-loop μ-loop
 cast-hints c = numbers (Q (T (E (J (P (c .before)))))) .hint
