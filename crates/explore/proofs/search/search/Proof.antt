@@ -1,159 +1,22 @@
 -- Turn by turn; the lengths stay.
-use borrow.Author.Needs.{needs}
+mod Places
 use native.Mathlib.Omega.{arith}
-use Prim.Native.Nat.{ℕ, _-_, _/_, _%_, _<_}
-use mathlib.Core.Option.{Option}
-use mathlib.Core.Path.{_≡_, refl, sym, ap, subst, _∙_}
-use mathlib.Core.List.{List}
+use Prim.Native.Nat.{_-_, _/_, _%_}
+use mathlib.Core.Path.{refl, ap, _∙_}
 use denote.Ref.{now}
-use mir.Syntax.{w16}
-use mir.Val.{toZ, ofZ}
-use mir.ValLaws.{toZ-ofZ}
-use lib.IntN.{ℤ}
-use lib.ListN.{getD, set, length-set}
-use Rattle.automaton.specs.Priced.{Priced}
+use lib.ListN.{length-set}
 use Rattle.sheet.specs.declared.Edge.{Edge}
-use Rattle.sheet.specs.declared.Sheet.{Sheet}
 use Rattle.contract.proofs.Graphs.{code-below}
-use Rattle.sheet.specs.Decoded.{blankEdge, blankLocation}
-use Rattle.nodes.specs.Numbers.{firstLayout, stepBy, startNumber}
-use Rattle.nodes.specs.Decoded.{decodedMeaning, locationIn, edgeIn}
-use Rattle.region.specs.Answers.{answered}
-use Rattle.step.proofs.SheetLaws.{any-default}
+use Rattle.nodes.specs.Numbers.{firstLayout}
+use Rattle.nodes.specs.Decoded.{decodedMeaning}
 use Rattle.walks.specs.Walk.{at}
-use Rattle.explore.specs.Buffers.{Buffers, buffers, LongEnough}
 use Rattle.explore.proofs.StepLaws.{start-zero, not-here}
-use Rattle.explore.proofs.CountLaws.{first, within, Counts, counts, turns-fit, edge-place, edge-offset, location-offset, hint-offset}
-use Rattle.explore.proofs.SearchLaws.{Searched, seeded, begin, skip, done, filled}
-use Rattle.explore.proofs.ArcLaws.{Pushed}
-use Rattle.explore.proofs.LengthLaws.{Same, long-kept}
+use Rattle.explore.proofs.CountLaws.{first, within, turns-fit, edge-place, edge-offset, location-offset, hint-offset}
+use Rattle.explore.proofs.SearchLaws.{begin, skip, done, filled}
 use Rattle.explore.proofs.EnterLaws.{small, no-arc, stopped, known-node, new-node}
 use Rattle.explore.proofs.search.search.Statement.{statement}
 use Rattle.explore.proofs.search.search.Tie as tie
-
-abbrev step : Sheet → ℕ → ℕ → Option (Priced ℕ)
-step sheet = stepBy firstLayout (decodedMeaning sheet)
-
-abbrev Inv-loop : tie.InvT-loop
-Inv-loop sheet nodes₀ sorted₀ order₀ tree₀ from₀ to₀ code₀ cost₀ reward₀ edges locations hints₀ n₀ m₀ t₀ nodes sorted order tree from to code cost reward hints n m t =
-    Searched (step sheet) (startNumber firstLayout (decodedMeaning sheet))
-    (buffers nodes₀ sorted₀ order₀ tree₀ from₀ to₀ code₀ cost₀ reward₀) (buffers nodes sorted order tree from to code cost reward) n m t
-    × Same (buffers nodes₀ sorted₀ order₀ tree₀ from₀ to₀ code₀ cost₀ reward₀) (buffers nodes sorted order tree from to code cost reward)
-
-abbrev μ-loop : tie.MeasureT-loop
-μ-loop sheet nodes₀ sorted₀ order₀ tree₀ from₀ to₀ code₀ cost₀ reward₀ edges locations hints₀ n₀ m₀ t₀ nodes sorted order tree from to code cost reward hints n m t = 69632 - t
-
--- ---- the places, from the end to the start
-
-abbrev P : tie.After-slice-known17 Inv-loop μ-loop → tie.After-price Inv-loop μ-loop
-P c = c .before .before .before
-
-abbrev J : tie.After-price Inv-loop μ-loop → tie.After-join Inv-loop μ-loop
-J c = c .before .before .before .before .before .before .before .before .before .before
-
-abbrev E : tie.After-join Inv-loop μ-loop → tie.After-enter Inv-loop μ-loop
-E c = c .before .before .before .before .before .before .before .before .before .before .before .before .before
-
-abbrev T : tie.After-enter Inv-loop μ-loop → tie.After-step-at Inv-loop μ-loop
-T c = c .before .before .before .before .before .before .before .before
-
-abbrev L : tie.After-step-at Inv-loop μ-loop → tie.At-loop Inv-loop μ-loop
-L c = c .before .before .before .before .before .before .before .before
-
-abbrev Q : tie.After-step-at Inv-loop μ-loop → tie.In-loop Inv-loop μ-loop
-Q c = c .before .before .before .before .before .before .before
-
-abbrev S : tie.At-loop Inv-loop μ-loop → tie.Start Inv-loop μ-loop
-S c = c .before .before .before .before .before .before .before .before .before .before .before .before .before
-
--- ---- the buffers at entry, where a turn begins, and where it has written an arc
-
-abbrev entry : tie.Start Inv-loop μ-loop → Buffers
-entry s =
-    buffers (now (s .args .nodes)) (now (s .args .sorted)) (now (s .args .order)) (now (s .args .tree)) (now (s .args .from)) (now (s .args .to))
-    (now (s .args .code)) (now (s .args .cost)) (now (s .args .reward))
-
-abbrev here : tie.At-loop Inv-loop μ-loop → Buffers
-here c = let l = c .loop in buffers (l .nodes) (l .sorted) (l .order) (l .tree) (l .from) (l .to) (l .code) (l .cost) (l .reward)
-
-abbrev after : tie.After-price Inv-loop μ-loop → Buffers
-after c =
-    let v = E (J c) .enter .last in
-    let j = J c .join .last in
-    let p = c .price .last in
-    buffers (v .0) (v .1 .0) (v .1 .1 .0) (v .1 .1 .1 .0) (j .0) (j .1 .0) (j .1 .1 .0) (p .0) (p .1 .0)
-
-long : (c : tie.At-loop Inv-loop μ-loop) → LongEnough (here c)
-long c = long-kept (entry (S c)) (here c) (c .loop .inv .1) (S c .pre)
-
-numbers : (c : tie.In-loop Inv-loop μ-loop) → let l = c .before .loop in Counts (l .n) (l .m) (l .t)
-numbers c = let l = c .before .loop in counts (l .n) (l .m) (l .t) (l .inv .0 .few-nodes) (l .inv .0 .few-arcs) (c .loop-test .taken)
-
--- ---- turn t, where the step is answered
-
-abbrev E₀ : tie.After-edge Inv-loop μ-loop → tie.At-loop Inv-loop μ-loop
-E₀ c = c .before .before .before
-
-record-is : (c : tie.After-edge Inv-loop μ-loop) (d : Edge) → let l = E₀ c in let k = l .loop .t % 34 in
-    k < 32 → getD (l .before .before .before .records .result) (k % 32) d ≡ edgeIn (S l .args .sheet) k
-record-is c d low =
-    let l = E₀ c in
-    let k = l .loop .t % 34 in
-    let rs = l .before .before .before .records in
-    let e : k % 32 ≡ k = omega arith in
-    any-default (rs .result) (k % 32) d blankEdge (subst (λ (n : ℕ). k % 32 < n) (sym (rs .ensures .1)) (edge-place (l .loop .t))) ∙ ap (λ (es : List Edge). getD es (k % 32) blankEdge) (rs .ensures .0)
-    ∙ ap (edgeIn (S l .args .sheet)) e
-
-module _ (c : tie.After-step-at Inv-loop μ-loop) where
-  abbrev sheet : Sheet
-  sheet = S (L c) .args .sheet
-
-  abbrev t : ℕ
-  t = L c .loop .t
-
-  told : c .step-at .result ≡ answered (step sheet (at (here (L c) .node) (t / 34)) (t % 34))
-  told =
-      let l = L c in
-      let b = l .before .by-byte in
-      let p = c .before .before .location-of in
-      let location-is = any-default (b .result) (p .result) _ blankLocation (subst (λ (n : ℕ). p .result < n) (sym (b .ensures .0)) (p .ensures .0)) ∙ b .ensures .1 (p .result) (p .ensures .0) in
-      c .step-at .ensures sheet (record {
-        clocks-are = refl;
-        edges-are = refl;
-        edge-is = record-is (c .before .before .before .before .before) _;
-        target-is = λ low. location-is ∙ ap (locationIn sheet) (p .ensures .1 .0 low);
-        here-is = λ high. location-is ∙ ap (locationIn sheet) (p .ensures .1 .1 high);
-      })
-
--- ---- what a turn with an arc has written
-
--- the cost, as it is read back from its bits
-cost-is : (p : tie.After-price Inv-loop μ-loop) → let s = T (E (J p)) .step-at .result in toZ w16 (ofZ w16 (s .cost)) ≡ s .cost
-cost-is p = toZ-ofZ w16 (T (E (J p)) .step-at .result .cost) (search needs)
-
-pushed : (p : tie.After-price Inv-loop μ-loop) → let a = T (E (J p)) in
-    Pushed (here (L a)) (after p) (L a .loop .m) (t a / 34) (E (J p) .enter .result) (t a % 34) (a .step-at .result)
-pushed p =
-    let j = J p .join .ensures in
-    record { from = j .0; to = j .1 .0; code = j .1 .1; cost = p .price .ensures .0 ∙ ap (λ (z : ℤ). set (here (L (T (E (J p)))) .cost) (L (T (E (J p))) .loop .m) z) (cost-is p); reward = p .price .ensures .1 }
-
-kept : (p : tie.After-price Inv-loop μ-loop) → Same (seeded (entry (S (L (T (E (J p))))))) (after p)
-kept p =
-    let v = E (J p) .enter .kept in
-    let j = J p .join .kept in
-    let w = p .price .kept in
-    let i = L (T (E (J p))) .loop .inv .1 in
-    record {
-      nodes = v .0 ∙ i .nodes;
-      sorted = v .1 .0 ∙ i .sorted;
-      order = v .1 .1 .0 ∙ i .order;
-      tree = v .1 .1 .1 .0 ∙ i .tree;
-      from = j .0 ∙ i .from;
-      to = j .1 .0 ∙ i .to;
-      code = j .1 .1 .0 ∙ i .code;
-      cost = w .0 ∙ i .cost;
-      reward = w .1 .0 ∙ i .reward;
-    }
+use Rattle.explore.proofs.search.search.Proof.Places.{Inv-loop, μ-loop, P, J, E, F, T, Q, L, B, S, entry, here, after, long, numbers, record-is, t, told, pushed, kept}
 
 records-requires : tie.Need-records-requires Inv-loop μ-loop
 records-requires c κs = tt
@@ -203,7 +66,7 @@ loop-less c = numbers (c .before .before .before .before) .less
 
 loop-again : tie.Need-loop-again Inv-loop μ-loop
 loop-again c =
-    let l = E₀ (c .before .before) in
+    let l = B (c .before .before) in
     let i = l .loop .inv in
     let t = l .loop .t in
     let k = numbers (c .before .before .before .before) in
@@ -250,35 +113,35 @@ enter-requires c κs =
     (g .index, (g .few-nodes, (r .node, (r .sorted, (r .order, r .tree)))))
 
 same-length : tie.Need-same-length Inv-loop μ-loop
-same-length c = let e = c .before .before .before .before .before .before .before .before .before in e .enter .kept .0 ∙ L (T e) .loop .inv .1 .nodes ∙ length-set (now (S (L (T e)) .args .nodes)) 0 0
+same-length c = let e = F c in e .enter .kept .0 ∙ L (T e) .loop .inv .1 .nodes ∙ length-set (now (S (L (T e)) .args .nodes)) 0 0
 
 same-length-2 : tie.Need-same-length-2 Inv-loop μ-loop
-same-length-2 c = let e = c .before .before .before .before .before .before .before .before .before in e .enter .kept .1 .0 ∙ L (T e) .loop .inv .1 .sorted ∙ length-set (now (S (L (T e)) .args .sorted)) 0 0
+same-length-2 c = let e = F c in e .enter .kept .1 .0 ∙ L (T e) .loop .inv .1 .sorted ∙ length-set (now (S (L (T e)) .args .sorted)) 0 0
 
 same-length-3 : tie.Need-same-length-3 Inv-loop μ-loop
-same-length-3 c = let e = c .before .before .before .before .before .before .before .before .before in e .enter .kept .1 .1 .0 ∙ L (T e) .loop .inv .1 .order ∙ length-set (now (S (L (T e)) .args .order)) 0 0
+same-length-3 c = let e = F c in e .enter .kept .1 .1 .0 ∙ L (T e) .loop .inv .1 .order ∙ length-set (now (S (L (T e)) .args .order)) 0 0
 
 same-length-4 : tie.Need-same-length-4 Inv-loop μ-loop
-same-length-4 c = let e = c .before .before .before .before .before .before .before .before .before in e .enter .kept .1 .1 .1 .0 ∙ L (T e) .loop .inv .1 .tree
+same-length-4 c = let e = F c in e .enter .kept .1 .1 .1 .0 ∙ L (T e) .loop .inv .1 .tree
 
 same-length-5 : tie.Need-same-length-5 Inv-loop μ-loop
-same-length-5 c = let e = c .before .before .before .before .before .before .before .before .before in L (T e) .loop .inv .1 .from
+same-length-5 c = let e = F c in L (T e) .loop .inv .1 .from
 
 same-length-6 : tie.Need-same-length-6 Inv-loop μ-loop
-same-length-6 c = let e = c .before .before .before .before .before .before .before .before .before in L (T e) .loop .inv .1 .to
+same-length-6 c = let e = F c in L (T e) .loop .inv .1 .to
 
 same-length-7 : tie.Need-same-length-7 Inv-loop μ-loop
-same-length-7 c = let e = c .before .before .before .before .before .before .before .before .before in L (T e) .loop .inv .1 .code
+same-length-7 c = let e = F c in L (T e) .loop .inv .1 .code
 
 same-length-8 : tie.Need-same-length-8 Inv-loop μ-loop
-same-length-8 c = let e = c .before .before .before .before .before .before .before .before .before in L (T e) .loop .inv .1 .cost
+same-length-8 c = let e = F c in L (T e) .loop .inv .1 .cost
 
 same-length-9 : tie.Need-same-length-9 Inv-loop μ-loop
-same-length-9 c = let e = c .before .before .before .before .before .before .before .before .before in L (T e) .loop .inv .1 .reward
+same-length-9 c = let e = F c in L (T e) .loop .inv .1 .reward
 
 returns : tie.Need-returns Inv-loop μ-loop
 returns c =
-    let e = c .before .before .before .before .before .before .before .before .before in
+    let e = F c in
     let a = T e in
     let l = L a in
     let k = numbers (Q a) in
