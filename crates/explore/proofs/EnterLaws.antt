@@ -37,29 +37,37 @@ small N K I P N' K' I' P' n y m j few (Entered.known a) = omega (arith, a .below
 small N K I P N' K' I' P' n y m j few (Entered.added a) = omega (arith, a .last)
 small N K I P N' K' I' P' n y m j few (Entered.full a) = omega (arith, a .last)
 
--- ---- turn t
-module _ (step : ℕ → ℕ → Option (Priced ℕ)) (start : ℕ) (b₀ b : Buffers) (n m i k t : ℕ) (s : Stepped) (g : Searched step start (seeded b₀) b n m t)
-    (long : LongEnough b) (hi : i < n) (hk : k < 34) (turn : t ≡ 34 * i + k) (ht : t < 34 * n) (told : s ≡ answered (step (at (b .node) i) k)) where
+-- ---- turn t: the step with code k at node i is answered by s
+pub record Taken (step : ℕ → ℕ → Option (Priced ℕ)) (start : ℕ) (b₀ b : Buffers) (n m i k t : ℕ) (s : Stepped) : Type 0 where
+  pub searched : Searched step start (seeded b₀) b n m t
+  pub long : LongEnough b
+  pub node : i < n
+  pub code : k < 34
+  pub turn : t ≡ 34 * i + k
+  pub left : t < 34 * n
+  pub told : s ≡ answered (step (at (b .node) i) k)
+
+module _ {step : ℕ → ℕ → Option (Priced ℕ)} {start : ℕ} {b₀ b : Buffers} {n m i k t : ℕ} {s : Stepped} (w : Taken step start b₀ b n m i k t s) where
   leads : s .refusal ≡ 0 → step (at (b .node) i) k ≡ some (led s)
-  leads e = allowed (step (at (b .node) i) k) s told e
+  leads e = allowed (step (at (b .node) i) k) s (w .told) e
 
   pub no-arc : (s .refusal ≡ 0 → ⊥) → Searched step start (seeded b₀) b n m (t + 1)
-  no-arc e = skip step start (seeded b₀) b n m i k t g hk turn ht (refused (step (at (b .node) i) k) s told e)
+  no-arc e = skip step start (seeded b₀) b n m i k t (w .searched) (w .code) (w .turn) (w .left) (refused (step (at (b .node) i) k) s (w .told) e)
 
   module _ (ok : s .refusal ≡ 0) where
     pub stopped : (N K I P : List ℕ) (j : ℕ) → Entered (b .node) (b .sorted) (b .order) (b .tree) N K I P n (s .number) m j → j ≡ 2048
         → Stopped step start b₀ (buffers N K I P (b .from) (b .to) (b .code) (b .cost) (b .reward))
     stopped N K I P j e z =
-        let a = over (b .node) (b .sorted) (b .order) (b .tree) N K I P n (s .number) m j (g .few-nodes) e z in
-        rw (a .nodes, a .sorted, a .order, a .tree) (stop step start b₀ b n m i k t (led s) g hi (a .full) (leads ok) (a .fresh))
+        let a = over (b .node) (b .sorted) (b .order) (b .tree) N K I P n (s .number) m j (w .searched .few-nodes) e z in
+        rw (a .nodes, a .sorted, a .order, a .tree) (stop step start b₀ b n m i k t (led s) (w .searched) (w .node) (a .full) (leads ok) (a .fresh))
 
     module _ (b' : Buffers) (j : ℕ) (e : Entered (b .node) (b .sorted) (b .order) (b .tree) (b' .node) (b' .sorted) (b' .order) (b' .tree) n (s .number) m j)
-        (room : j ≡ 2048 → ⊥) (w : Pushed b b' m i j k s) where
+        (room : j ≡ 2048 → ⊥) (arc : Pushed b b' m i j k s) where
       pub known-node : (j ≡ n → ⊥) → Searched step start (seeded b₀) b' n (m + 1) (t + 1)
-      known-node z = known-turn step start (seeded b₀) b b' n m i k t s g long hi hk turn (leads ok) j ht
-          (old (b .node) (b .sorted) (b .order) (b .tree) (b' .node) (b' .sorted) (b' .order) (b' .tree) n (s .number) m j e room z) w
+      known-node z = known-turn step start (seeded b₀) b b' n m i k t s (w .searched) (w .long) (w .node) (w .code) (w .turn) (leads ok) j (w .left)
+          (old (b .node) (b .sorted) (b .order) (b .tree) (b' .node) (b' .sorted) (b' .order) (b' .tree) n (s .number) m j e room z) arc
 
       pub new-node : j ≡ n → Searched step start (seeded b₀) b' (n + 1) (m + 1) (t + 1)
-      new-node z = new-turn step start (seeded b₀) b b' n m i k t s g long hi hk turn (leads ok)
+      new-node z = new-turn step start (seeded b₀) b b' n m i k t s (w .searched) (w .long) (w .node) (w .code) (w .turn) (leads ok)
           (new (b .node) (b .sorted) (b .order) (b .tree) (b' .node) (b' .sorted) (b' .order) (b' .tree) n (s .number) m j e room z)
-          (subst (λ (j : ℕ). Pushed b b' m i j k s) z w) ht
+          (subst (λ (j : ℕ). Pushed b b' m i j k s) z arc) (w .left)

@@ -10,10 +10,14 @@ returns-2 : tie.Need-returns-2
 returns-2 c = simp (le-leb (c .before .before .args .least) (c .before .before .args .a) (c .before .if1 .left), lt-leb (c .before .before .args .least) (c .before .before .args .b) (c .if2 .taken))
 
 returns-3 : tie.Need-returns-3
-returns-3 c = simp (le-leb (c .before .before .before .args .least) (c .before .before .before .args .a) (c .before .before .if1 .left), le-leb (c .before .before .before .args .least) (c .before .before .before .args .b) (c .before .if2 .left), lt-leb (c .before .before .before .args .least) (c .before .before .before .args .c) (c .if3 .taken))
+returns-3 c =
+    let a = c .before .before .before .args in
+    simp (le-leb (a .least) (a .a) (c .before .before .if1 .left), le-leb (a .least) (a .b) (c .before .if2 .left), lt-leb (a .least) (a .c) (c .if3 .taken))
 
 returns-4 : tie.Need-returns-4
-returns-4 c = simp (le-leb (c .before .before .before .args .least) (c .before .before .before .args .a) (c .before .before .if1 .left), le-leb (c .before .before .before .args .least) (c .before .before .before .args .b) (c .before .if2 .left), le-leb (c .before .before .before .args .least) (c .before .before .before .args .c) (c .if3 .left))
+returns-4 c =
+    let a = c .before .before .before .args in
+    simp (le-leb (a .least) (a .a) (c .before .before .if1 .left), le-leb (a .least) (a .b) (c .before .if2 .left), le-leb (a .least) (a .c) (c .if3 .left))
 
 pub each-at-least-spec : {M : Type 1} → statement M
 each-at-least-spec = tie.close (tie.spec returns returns-2 returns-3 returns-4)

@@ -1,9 +1,10 @@
 -- The lengths are tested, and the search is called.
-use mathlib.Core.Path.{refl, sym, _∙_}
+use mathlib.Core.Bool.{true}
+use mathlib.Core.Path.{_≡_, refl, sym, _∙_}
 use denote.Ref.{now}
 use borrow.Author.Tests.{not-true, not-false}
 use Rattle.explore.specs.Buffers.{Buffers, buffers}
-use Rattle.explore.proofs.LengthLaws.{long-of, not-long}
+use Rattle.explore.proofs.LengthLaws.{fits, long-of, not-long}
 use Rattle.explore.proofs.explore.Statement.{statement}
 use Rattle.explore.proofs.explore.Tie as tie
 
@@ -17,6 +18,10 @@ entry s =
 abbrev C : tie.After-slice-known16 → tie.After-search
 C c = c .before .before .before .before .before .before .before .before .before .before .before .before .before .before .before .before .before
 
+-- the test is passed
+passed : (c : tie.Else1) → fits (entry (c .before .before .before .before .before .before .before .before .before .before)) ≡ true
+passed c = sym (c .before .long-enough .ensures) ∙ not-false (c .before .long-enough .result) (c .if1 .left)
+
 long-enough-requires : tie.Need-long-enough-requires
 long-enough-requires c κs = tt
 
@@ -24,7 +29,7 @@ returns : tie.Need-returns
 returns c = (not-long (entry (c .before .before .before .before .before .before .before .before .before .before)) (sym (c .before .long-enough .ensures) ∙ not-true (c .before .long-enough .result) (c .if1 .taken)), refl)
 
 search-requires : tie.Need-search-requires
-search-requires c κs = long-of (entry (c .before .before .before .before .before .before .before .before .before .before .before .before .before .before .before .before .before .before .before)) (sym (c .before .before .before .before .before .before .before .before .before .before .long-enough .ensures) ∙ not-false (c .before .before .before .before .before .before .before .before .before .before .long-enough .result) (c .before .before .before .before .before .before .before .before .before .if1 .left))
+search-requires c κs = long-of (entry (c .before .before .before .before .before .before .before .before .before .before .before .before .before .before .before .before .before .before .before)) (passed (c .before .before .before .before .before .before .before .before .before))
 
 same-length : tie.Need-same-length
 same-length c = C c .search .kept .1 .0

@@ -47,13 +47,17 @@ same-length : tie.Need-same-length
 same-length c = search needs
 
 returns-2 : tie.Need-returns-2
-returns-2 c = let s = c .before .before .before .before .before .before .before .before .before .before .before in stood _ _ _ _ _ _ _ _ (s .pre .0) (c .before .before .before .before .place .ensures) (c .before .before .before .if3 .taken) (c .before .if4 .taken)
+returns-2 c =
+    let s = c .before .before .before .before .before .before .before .before .before .before .before in
+    stood _ _ _ _ _ _ _ _ (s .pre .0) (c .before .before .before .before .place .ensures) (c .before .before .before .if3 .taken) (c .before .if4 .taken)
 
 same-length-2 : tie.Need-same-length-2
 same-length-2 c = search needs
 
 returns-3 : tie.Need-returns-3
-returns-3 c = let s = c .before .before .before .before .before .before .before .before .before in filled _ _ _ _ _ _ _ _ (s .pre .0) (c .before .before .place .ensures) (missing (c .before)) (c .if5 .taken)
+returns-3 c =
+    let s = c .before .before .before .before .before .before .before .before .before in
+    filled _ _ _ _ _ _ _ _ (s .pre .0) (c .before .before .place .ensures) (missing (c .before)) (c .if5 .taken)
 
 mul-nodes : tie.Need-mul-nodes
 mul-nodes c = search needs
@@ -89,7 +93,12 @@ same-length-6 : tie.Need-same-length-6
 same-length-6 c = search needs
 
 returns-4 : tie.Need-returns-4
-returns-4 c = let s = c .before .before .before .before .before .before .before .before .before .before .before .before .before .before .before .before .before in joins _ _ _ _ _ _ _ _ (s .pre .0) (c .before .before .before .before .before .before .before .before .before .before .place .ensures) _ _ (missing (c .before .before .before .before .before .before .before .before .before)) (let z = c .before .before .before .before .before .before .before .before .if5 .left in omega (arith, s .pre .1 .0)) (s .pre .1 .1 .0) (c .before .before .before .before .before .before .insert .ensures) (c .before .before .insert2 .ensures)
+returns-4 c =
+    let f = c .before .before .before .before .before .before .before .before in
+    let s = f .before .before .before .before .before .before .before .before .before in
+    let z = f .if5 .left in
+    joins _ _ _ _ _ _ _ _ (s .pre .0) (f .before .before .place .ensures) _ _ (missing (f .before)) (omega (arith, s .pre .1 .0)) (s .pre .1 .1 .0)
+    (c .before .before .before .before .before .before .insert .ensures) (c .before .before .insert2 .ensures)
 
 pub enter-spec : {M : Type 1} → statement M
 enter-spec =

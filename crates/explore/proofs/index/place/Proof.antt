@@ -26,7 +26,8 @@ found : (c : tie.After-if-below2 Inv-loop μ-loop) → let s = c .before .before
     Place (now (s .sorted)) (s .n) (s .x) (c .before .before .before .before .loop .low + c .if-below2 .result)
 found c =
     let l = c .before .before .before .before in
-    bracket-one _ _ _ _ (l .loop .size) _ (l .before .before .pre .1 .1) (l .loop .inv) (omega (arith, c .before .before .if1 .left, c .before .before .before .loop-test .left)) (c .if-below2 .ensures .0) (c .if-below2 .ensures .1)
+    bracket-one _ _ _ _ (l .loop .size) _ (l .before .before .pre .1 .1) (l .loop .inv)
+    (omega (arith, c .before .before .if1 .left, c .before .before .before .loop-test .left)) (c .if-below2 .ensures .0) (c .if-below2 .ensures .1)
 
 loop-holds : tie.Need-loop-holds Inv-loop μ-loop
 loop-holds c = bracket-start _ _ _

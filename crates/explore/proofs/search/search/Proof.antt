@@ -16,7 +16,7 @@ use Rattle.explore.proofs.SearchLaws.{begin, skip, done, filled}
 use Rattle.explore.proofs.EnterLaws.{small, no-arc, stopped, known-node, new-node}
 use Rattle.explore.proofs.search.search.Statement.{statement}
 use Rattle.explore.proofs.search.search.Tie as tie
-use Rattle.explore.proofs.search.search.Proof.Places.{Inv-loop, μ-loop, P, J, E, F, T, Q, L, B, S, entry, here, after, long, numbers, record-is, t, told, pushed, kept}
+use Rattle.explore.proofs.search.search.Proof.Places.{Inv-loop, μ-loop, P, J, E, F, T, Q, L, B, S, entry, here, after, long, numbers, record-is, turn, pushed, kept}
 
 records-requires : tie.Need-records-requires Inv-loop μ-loop
 records-requires c κs = tt
@@ -92,9 +92,7 @@ loop-less-2 c = numbers (Q (c .before .before)) .less
 loop-again-2 : tie.Need-loop-again-2 Inv-loop μ-loop
 loop-again-2 c =
     let a = c .before .before in
-    let l = L a in
-    let k = numbers (Q a) in
-    (no-arc _ _ (entry (S l)) (here l) _ _ (t a / 34) (t a % 34) (t a) (a .step-at .result) (l .loop .inv .0) (long l) (k .node) (k .code) (k .turn) (Q a .loop-test .taken) (told a) (c .if2 .taken), l .loop .inv .1)
+    (no-arc (turn a) (c .if2 .taken), L a .loop .inv .1)
 
 slot-requires : tie.Need-slot-requires Inv-loop μ-loop
 slot-requires c κs = tt
@@ -144,8 +142,7 @@ returns c =
     let e = F c in
     let a = T e in
     let l = L a in
-    let k = numbers (Q a) in
-    (S l .pre, stopped _ _ (entry (S l)) (here l) _ _ (t a / 34) (t a % 34) (t a) (a .step-at .result) (l .loop .inv .0) (long l) (k .node) (k .code) (k .turn) (Q a .loop-test .taken) (told a) (e .before .before .before .before .before .before .if2 .left) _ _ _ _ _ (e .enter .ensures) (c .if3 .taken))
+    (S l .pre, stopped (turn a) (e .before .before .before .before .before .before .if2 .left) _ _ _ _ _ (e .enter .ensures) (c .if3 .taken))
 
 join-requires : tie.Need-join-requires Inv-loop μ-loop
 join-requires c κs =
@@ -168,10 +165,10 @@ cast-hints : tie.Need-cast-hints Inv-loop μ-loop
 cast-hints c = numbers (Q (T (E (J (P (c .before)))))) .hint
 
 mul-hints : tie.Need-mul-hints Inv-loop μ-loop
-mul-hints c = hint-offset _ (c .before .before .before .before .before .before .before .before .before .before .before .before .before .before .before .before .before .before .before .before .before .before .before .before .before .before .before .before .before .before .before .before .slot .ensures)
+mul-hints c = hint-offset _ (E (J (P (c .before))) .before .before .before .before .before .slot .ensures)
 
 array-write-hints : tie.Need-array-write-hints Inv-loop μ-loop
-array-write-hints c = c .before .before .before .before .before .before .before .before .before .before .before .before .before .before .before .before .before .before .before .before .before .before .before .before .before .before .before .before .before .before .before .before .slot .ensures
+array-write-hints c = E (J (P (c .before))) .before .before .before .before .before .slot .ensures
 
 add-n : tie.Need-add-n Inv-loop μ-loop
 add-n c = numbers (Q (T (E (J (P (c .before)))))) .next-node
@@ -185,8 +182,7 @@ loop-again-3 c =
     let e = E (J p) in
     let a = T e in
     let l = L a in
-    let k = numbers (Q a) in
-    (new-node _ _ (entry (S l)) (here l) _ _ (t a / 34) (t a % 34) (t a) (a .step-at .result) (l .loop .inv .0) (long l) (k .node) (k .code) (k .turn) (Q a .loop-test .taken) (told a) (e .before .before .before .before .before .before .if2 .left) (after p) _ (e .enter .ensures) (J p .before .before .before .before .if3 .left) (pushed p) (c .if4 .taken), kept p)
+    (new-node (turn a) (e .before .before .before .before .before .before .if2 .left) (after p) _ (e .enter .ensures) (J p .before .before .before .before .if3 .left) (pushed p) (c .if4 .taken), kept p)
 
 loop-less-4 : tie.Need-loop-less-4 Inv-loop μ-loop
 loop-less-4 c = numbers (Q (T (E (J (P (c .before)))))) .less
@@ -197,8 +193,7 @@ loop-again-4 c =
     let e = E (J p) in
     let a = T e in
     let l = L a in
-    let k = numbers (Q a) in
-    (known-node _ _ (entry (S l)) (here l) _ _ (t a / 34) (t a % 34) (t a) (a .step-at .result) (l .loop .inv .0) (long l) (k .node) (k .code) (k .turn) (Q a .loop-test .taken) (told a) (e .before .before .before .before .before .before .if2 .left) (after p) _ (e .enter .ensures) (J p .before .before .before .before .if3 .left) (pushed p) (c .if4 .left), kept p)
+    (known-node (turn a) (e .before .before .before .before .before .before .if2 .left) (after p) _ (e .enter .ensures) (J p .before .before .before .before .if3 .left) (pushed p) (c .if4 .left), kept p)
 
 same-length-10 : tie.Need-same-length-10 Inv-loop μ-loop
 same-length-10 c = c .before .loop .inv .1 .nodes ∙ length-set (now (S (c .before) .args .nodes)) 0 0

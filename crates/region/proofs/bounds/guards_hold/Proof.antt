@@ -54,7 +54,8 @@ returns c =
     let t = c .before in
     let l = L t in
     let s = l .before in
-    clock-fails (asks (s .args .t2) (s .args .t3)) (s .args .t1 .whole) (s .args .t1 .class) (search needs) (search needs) (l .loop .j) (omega arith) (t .before .interval-of .ensures) (t .guard-holds .ensures)
+    clock-fails (asks (s .args .t2) (s .args .t3)) (s .args .t1 .whole) (s .args .t1 .class) (search needs) (search needs) (l .loop .j) (omega arith)
+    (t .before .interval-of .ensures) (t .guard-holds .ensures)
     (s .args .clocks) (omega arith) (not-true (t .guard-holds .result) (c .if1 .taken))
 
 add-j : tie.Need-add-j Inv-loop μ-loop

@@ -33,8 +33,12 @@ cast-read-edges c = search needs
 
 read-edges-requires : tie.Need-read-edges-requires
 read-edges-requires c κs =
-    let h = header (c .before .before .before .before .before .before .args .s .now) (c .before .before .before .before .before .before .pre) in
-    (omega (arith, c .locations-end .ensures, c .before .before .before .before .byte .ensures, h .locations, at-le LocationRecord (c .before .before .before .before .before .before .args .s .now) 4 (c .before .before .before .before .byte .result)), omega (arith, c .before .before .byte3 .ensures, h .edges))
+    let b = c .before .before .before .before in
+    let s = b .before .before in
+    let h = header (s .args .s .now) (s .pre) in (
+      omega (arith, c .locations-end .ensures, b .byte .ensures, h .locations, at-le LocationRecord (s .args .s .now) 4 (b .byte .result)),
+      omega (arith, c .before .before .byte3 .ensures, h .edges),
+    )
 
 returns : tie.Need-returns
 returns c = cc

@@ -23,7 +23,10 @@ record-length-requires : tie.Need-record-length-requires Inv-loop μ-loop
 record-length-requires c κs = omega (arith, at-le LocationRecord (c .before .before .before .args .s .now) 4 (c .before .loop .i))
 
 add-at : tie.Need-add-at Inv-loop μ-loop
-add-at c = omega (arith, c .record-length .ensures, length-le LocationRecord (c .before .before .before .before .args .s .now) (c .before .before .loop .at), at-le LocationRecord (c .before .before .before .before .args .s .now) 4 (c .before .before .loop .i))
+add-at c =
+    let s = c .before .before .before .before .args .s .now in
+    let l = c .before .before .loop in
+    omega (arith, c .record-length .ensures, length-le LocationRecord s (l .at), at-le LocationRecord s 4 (l .i))
 
 add-i : tie.Need-add-i Inv-loop μ-loop
 add-i c = search needs

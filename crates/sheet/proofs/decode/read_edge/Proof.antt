@@ -41,7 +41,8 @@ returns : tie.Need-returns
 returns c = λ i. record {
   source = c .before .before .before .before .before .before .before .byte .ensures i;
   target = c .before .before .before .before .before .before .byte2 .ensures i;
-  cost = (toZ-ofZ w16 (c .before .before .before .before .signed .result) (sfits-of (c .before .before .before .before .signed .ok)) ∙ c .before .before .before .before .signed .ensures ∙ ap signedOf (c .before .before .before .before .before .price .ensures)) i;
+  cost = (toZ-ofZ w16 (c .before .before .before .before .signed .result) (sfits-of (c .before .before .before .before .signed .ok))
+      ∙ c .before .before .before .before .signed .ensures ∙ ap signedOf (c .before .before .before .before .before .price .ensures)) i;
   reward = c .before .before .before .price2 .ensures i;
   reset = c .before .before .byte-field .ensures i;
   lower = c .before .clock-bytes .ensures i;

@@ -37,7 +37,9 @@ record-length-requires : tie.Need-record-length-requires Inv-loop μ-loop
 record-length-requires c κs = omega (arith, at-le EdgeRecord (c .before .before .before .before .before .args .s .now) (c .before .before .before .before .before .args .from) (c .before .before .loop .e))
 
 add-at : tie.Need-add-at Inv-loop μ-loop
-add-at c = omega (arith, c .record-length .ensures, length-le EdgeRecord (c .before .before .before .before .before .before .args .s .now) (c .before .before .before .loop .at), at-le EdgeRecord (c .before .before .before .before .before .before .args .s .now) (c .before .before .before .before .before .before .args .from) (c .before .before .before .loop .e))
+add-at c =
+    let a = c .before .before .before .before .before .before .args in
+    omega (arith, c .record-length .ensures, length-le EdgeRecord (a .s .now) (c .before .before .before .loop .at), at-le EdgeRecord (a .s .now) (a .from) (c .before .before .before .loop .e))
 
 add-e : tie.Need-add-e Inv-loop μ-loop
 add-e c = search needs
@@ -48,8 +50,9 @@ loop-less c = search needs
 loop-again : tie.Need-loop-again Inv-loop μ-loop
 unfolding edgesOf
 loop-again c =
+    let a = c .before .before .before .before .before .before .args in
     let l = c .before .before .before .loop in
-    (search needs, (cc (at-more EdgeRecord (c .before .before .before .before .before .before .args .s .now) (c .before .before .before .before .before .before .args .from) (l .e)), cc (filled-more (λ (k : ℕ). edgeOf (c .before .before .before .before .before .before .args .s .now) (recordAt EdgeRecord (c .before .before .before .before .before .before .args .s .now) (c .before .before .before .before .before .before .args .from) k)) blankEdge 32 (l .e))))
+    (search needs, (cc (at-more EdgeRecord (a .s .now) (a .from) (l .e)), cc (filled-more (λ (k : ℕ). edgeOf (a .s .now) (recordAt EdgeRecord (a .s .now) (a .from) k)) blankEdge 32 (l .e))))
 
 returns : tie.Need-returns Inv-loop μ-loop
 returns c =

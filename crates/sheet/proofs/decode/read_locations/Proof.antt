@@ -37,7 +37,10 @@ record-length-requires : tie.Need-record-length-requires Inv-loop μ-loop
 record-length-requires c κs = omega (arith, at-le LocationRecord (c .before .before .before .before .before .args .s .now) 4 (c .before .before .loop .i))
 
 add-at : tie.Need-add-at Inv-loop μ-loop
-add-at c = omega (arith, c .record-length .ensures, length-le LocationRecord (c .before .before .before .before .before .before .args .s .now) (c .before .before .before .loop .at), at-le LocationRecord (c .before .before .before .before .before .before .args .s .now) 4 (c .before .before .before .loop .i))
+add-at c =
+    let s = c .before .before .before .before .before .before .args .s .now in
+    let l = c .before .before .before .loop in
+    omega (arith, c .record-length .ensures, length-le LocationRecord s (l .at), at-le LocationRecord s 4 (l .i))
 
 add-i : tie.Need-add-i Inv-loop μ-loop
 add-i c = search needs
@@ -48,8 +51,9 @@ loop-less c = search needs
 loop-again : tie.Need-loop-again Inv-loop μ-loop
 unfolding locationsOf
 loop-again c =
+    let a = c .before .before .before .before .before .before .args in
     let l = c .before .before .before .loop in
-    (search needs, (cc (at-more LocationRecord (c .before .before .before .before .before .before .args .s .now) 4 (l .i)), cc (filled-more (λ (k : ℕ). locationOf (c .before .before .before .before .before .before .args .s .now) (recordAt LocationRecord (c .before .before .before .before .before .before .args .s .now) 4 k)) blankLocation 12 (l .i))))
+    (search needs, (cc (at-more LocationRecord (a .s .now) 4 (l .i)), cc (filled-more (λ (k : ℕ). locationOf (a .s .now) (recordAt LocationRecord (a .s .now) 4 k)) blankLocation 12 (l .i))))
 
 returns : tie.Need-returns Inv-loop μ-loop
 returns c =

@@ -30,12 +30,14 @@ returns-2 c = sym (ap₂ (fieldOf first) (c .before .enum-told .given .1) (c .ma
 returns-3 : tie.Need-returns-3
 returns-3 c =
     let r = c .before .match2 .rest in
-    sym (ap (λ k. fieldOf first k (c .before .before .before .before .args .b)) (c .before .before .enum-told .given .1) ∙ location-upper (c .before .before .before .before .args .b) (omega (arith, r .1, r .0 .1)) (omega arith))
+    let b = c .before .before .before .before .args .b in
+    sym (ap (λ k. fieldOf first k b) (c .before .before .enum-told .given .1) ∙ location-upper b (omega (arith, r .1, r .0 .1)) (omega arith))
 
 returns-4 : tie.Need-returns-4
 returns-4 c =
     let r = c .before .match2 .rest in
-    sym (ap (λ k. fieldOf first k (c .before .before .before .before .args .b)) (c .before .before .enum-told .given .1) ∙ location-unused (c .before .before .before .before .args .b) (omega (arith, r .1, r .0 .1)))
+    let b = c .before .before .before .before .args .b in
+    sym (ap (λ k. fieldOf first k b) (c .before .before .enum-told .given .1) ∙ location-unused b (omega (arith, r .1, r .0 .1)))
 
 returns-5 : tie.Need-returns-5
 unfolding fieldOf
@@ -52,17 +54,20 @@ returns-7 c = sym (ap₂ (fieldOf first) (c .before .enum-told2 .given .1) (c .m
 returns-8 : tie.Need-returns-8
 returns-8 c =
     let r = c .before .match3 .rest in
-    sym (ap (λ k. fieldOf first k (c .before .before .before .before .args .b)) (c .before .before .enum-told2 .given .1) ∙ edge-lower (c .before .before .before .before .args .b) (omega (arith, r .1, r .0 .1, r .0 .0 .1)) (omega arith))
+    let b = c .before .before .before .before .args .b in
+    sym (ap (λ k. fieldOf first k b) (c .before .before .enum-told2 .given .1) ∙ edge-lower b (omega (arith, r .1, r .0 .1, r .0 .0 .1)) (omega arith))
 
 returns-9 : tie.Need-returns-9
 returns-9 c =
     let r = c .before .before .match3 .rest in
-    sym (ap (λ k. fieldOf first k (c .before .before .before .before .before .args .b)) (c .before .before .before .enum-told2 .given .1) ∙ edge-upper (c .before .before .before .before .before .args .b) (omega (arith, r .1, r .0 .1, r .0 .0 .1)) (omega arith))
+    let b = c .before .before .before .before .before .args .b in
+    sym (ap (λ k. fieldOf first k b) (c .before .before .before .enum-told2 .given .1) ∙ edge-upper b (omega (arith, r .1, r .0 .1, r .0 .0 .1)) (omega arith))
 
 returns-10 : tie.Need-returns-10
 returns-10 c =
     let r = c .before .before .match3 .rest in
-    sym (ap (λ k. fieldOf first k (c .before .before .before .before .before .args .b)) (c .before .before .before .enum-told2 .given .1) ∙ edge-unused (c .before .before .before .before .before .args .b) (omega (arith, r .1, r .0 .1, r .0 .0 .1)))
+    let b = c .before .before .before .before .before .args .b in
+    sym (ap (λ k. fieldOf first k b) (c .before .before .before .enum-told2 .given .1) ∙ edge-unused b (omega (arith, r .1, r .0 .1, r .0 .0 .1)))
 
 pub field-of-spec : {M : Type 1} → statement M
 field-of-spec =

@@ -52,7 +52,8 @@ loop-again c =
     let l = c .before .before .before .loop in (
       search needs,
       each-more (l .j) (λ i. stands (mapOf LocationRecord (a .s .now) (a .at)) (first .bound + i)) (l .inv .1)
-          (set-bit (mapOf LocationRecord (a .s .now) (a .at)) (first .bound + l .j) (λ z. c .if1 .left (c .before .bit .ensures ∙ ap (λ (m : ℕ). bitOf m (first .bound + l .j)) (c .before .before .before .before .before .map-of .ensures) ∙ z))),
+          (set-bit (mapOf LocationRecord (a .s .now) (a .at)) (first .bound + l .j)
+          (λ z. c .if1 .left (c .before .bit .ensures ∙ ap (λ (m : ℕ). bitOf m (first .bound + l .j)) (c .before .before .before .before .before .map-of .ensures) ∙ z))),
     )
 
 returns : tie.Need-returns Inv-loop μ-loop Inv-bounds μ-bounds

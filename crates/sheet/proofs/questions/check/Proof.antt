@@ -1,6 +1,9 @@
 -- The header's questions, then the records'.
+use mathlib.Core.Bool.{Bool, true}
+use mathlib.Core.List.{List}
 use mathlib.Core.Path.{_≡_, sym, ap, _∙_}
 use Prim.Native.Nat.{ℕ}
+use lib.ListN.{length}
 use Rattle.sheet.specs.Bytes.{byteAt}
 use Rattle.sheet.specs.Fields.{within}
 use Rattle.sheet.specs.Questions.{recordsCode}
@@ -12,22 +15,65 @@ use Rattle.sheet.proofs.CodeLaws.{bad-length, bad-edition, bad-location
 use Rattle.sheet.proofs.questions.check.Statement.{statement}
 use Rattle.sheet.proofs.questions.check.Tie as tie
 
--- the records' questions at the header's counts
-counts : (c : tie.After-records-code) → recordsCode (c .before .before .before .before .before .before .before .before .number2 .result) (c .before .before .before .before .before .before .before .before .before .number .result) (c .before .before .before .before .before .before .before .number3 .result) (c .before .before .before .before .before .before .before .before .before .before .before .before .before .before .before .args .s .now)
-    ≡ recordsCode (byteAt (c .before .before .before .before .before .before .before .before .before .before .before .before .before .before .before .args .s .now) 2) (byteAt (c .before .before .before .before .before .before .before .before .before .before .before .before .before .before .before .args .s .now) 1) (byteAt (c .before .before .before .before .before .before .before .before .before .before .before .before .before .before .before .args .s .now) 3) (c .before .before .before .before .before .before .before .before .before .before .before .before .before .before .before .args .s .now)
-counts c = simp (c .before .before .before .before .before .before .before .before .before .number .ensures, c .before .before .before .before .before .before .before .before .number2 .ensures, c .before .before .before .before .before .before .before .number3 .ensures)
+-- ---- the places, from the end to the start: after each test that is passed
+
+abbrev E4 : tie.Else5 → tie.Else4
+E4 c = c .before .before
+
+abbrev E3 : tie.Else4 → tie.Else3
+E3 c = c .before .before
+
+abbrev E2 : tie.Else3 → tie.Else2
+E2 c = c .before .before .before .before .before
+
+abbrev E1 : tie.Else2 → tie.Else1
+E1 c = c .before .before
+
+abbrev bytes : tie.Else1 → List ℕ
+bytes c = c .before .before .before .args .s .now
+
+-- ---- what each of them says
+
+-- a byte that was read, and then held to its limits
+tested : (r v least most : ℕ) (w b : Bool) → r ≡ v → w ≡ within r least most → w ≡ b → within v least most ≡ b
+tested r v least most w b e f g = ap (λ (x : ℕ). within x least most) (sym e) ∙ sym f ∙ g
+
+length-good : (c : tie.Else1) → within (length (bytes c)) 4 580 ≡ true
+length-good c = sym (c .before .is-within .ensures) ∙ not-false (c .before .is-within .result) (c .if1 .left)
+
+edition-good : (c : tie.Else2) → byteAt (bytes (E1 c)) 0 ≡ 1
+edition-good c = sym (c .before .byte .ensures) ∙ c .if2 .left
+
+locations-good : (c : tie.Else3) → within (byteAt (bytes (E1 (E2 c))) 1) 1 12 ≡ true
+locations-good c =
+    let w = c .before .is-within2 in
+    tested _ _ 1 12 _ _ (c .before .before .before .before .number .ensures) (w .ensures) (not-false (w .result) (c .if3 .left))
+
+clocks-good : (c : tie.Else4) → within (byteAt (bytes (E1 (E2 (E3 c)))) 2) 1 3 ≡ true
+clocks-good c =
+    let w = c .before .is-within3 in
+    tested _ _ 1 3 _ _ (c .before .before .before .before .before .number2 .ensures) (w .ensures) (not-false (w .result) (c .if4 .left))
+
+edges-good : (c : tie.Else5) → within (byteAt (bytes (E1 (E2 (E3 (E4 c))))) 3) 0 32 ≡ true
+edges-good c =
+    let w = c .before .is-within4 in
+    tested _ _ 0 32 _ _ (c .before .before .before .before .before .before .number3 .ensures) (w .ensures) (not-false (w .result) (c .if5 .left))
 
 is-within-requires : tie.Need-is-within-requires
 is-within-requires c κs = search needs
 
 returns : tie.Need-returns
-returns c = bad-length (c .before .before .before .args .s .now) (sym (c .before .is-within .ensures) ∙ not-true (c .before .is-within .result) (c .if1 .taken))
+returns c =
+    let w = c .before .is-within in
+    bad-length (c .before .before .before .args .s .now) (sym (w .ensures) ∙ not-true (w .result) (c .if1 .taken))
 
 byte-requires : tie.Need-byte-requires
 byte-requires c κs = search needs
 
 returns-2 : tie.Need-returns-2
-returns-2 c = bad-edition (c .before .before .before .before .before .args .s .now) (sym (c .before .before .before .is-within .ensures) ∙ not-false (c .before .before .before .is-within .result) (c .before .before .if1 .left)) (λ e. c .if2 .taken (c .before .byte .ensures ∙ e))
+returns-2 c =
+    let f = c .before .before in
+    bad-edition (bytes f) (length-good f) (λ e. c .if2 .taken (c .before .byte .ensures ∙ e))
 
 number-requires : tie.Need-number-requires
 number-requires c κs = search needs
@@ -42,32 +88,75 @@ is-within-requires-2 : tie.Need-is-within-requires-2
 is-within-requires-2 c κs = search needs
 
 returns-3 : tie.Need-returns-3
-returns-3 c = bad-locations (c .before .before .before .before .before .before .before .before .before .before .args .s .now) (sym (c .before .before .before .before .before .before .before .before .is-within .ensures) ∙ not-false (c .before .before .before .before .before .before .before .before .is-within .result) (c .before .before .before .before .before .before .before .if1 .left)) (sym (c .before .before .before .before .before .before .byte .ensures) ∙ c .before .before .before .before .before .if2 .left) (ap (λ (v : ℕ). within v 1 12) (sym (c .before .before .before .before .number .ensures)) ∙ sym (c .before .is-within2 .ensures) ∙ not-true (c .before .is-within2 .result) (c .if3 .taken))
+returns-3 c =
+    let f = c .before .before .before .before .before in
+    let w = c .before .is-within2 in
+    bad-locations (bytes (E1 f)) (length-good (E1 f)) (edition-good f)
+    (tested _ _ 1 12 _ _ (c .before .before .before .before .number .ensures) (w .ensures) (not-true (w .result) (c .if3 .taken)))
 
 is-within-requires-3 : tie.Need-is-within-requires-3
 is-within-requires-3 c κs = search needs
 
 returns-4 : tie.Need-returns-4
-returns-4 c = bad-clocks (c .before .before .before .before .before .before .before .before .before .before .before .before .args .s .now) (sym (c .before .before .before .before .before .before .before .before .before .before .is-within .ensures) ∙ not-false (c .before .before .before .before .before .before .before .before .before .before .is-within .result) (c .before .before .before .before .before .before .before .before .before .if1 .left)) (sym (c .before .before .before .before .before .before .before .before .byte .ensures) ∙ c .before .before .before .before .before .before .before .if2 .left) (ap (λ (v : ℕ). within v 1 12) (sym (c .before .before .before .before .before .before .number .ensures)) ∙ sym (c .before .before .before .is-within2 .ensures) ∙ not-false (c .before .before .before .is-within2 .result) (c .before .before .if3 .left)) (ap (λ (v : ℕ). within v 1 3) (sym (c .before .before .before .before .before .number2 .ensures)) ∙ sym (c .before .is-within3 .ensures) ∙ not-true (c .before .is-within3 .result) (c .if4 .taken))
+returns-4 c =
+    let l = c .before .before in
+    let f = E2 l in
+    let w = c .before .is-within3 in
+    bad-clocks (bytes (E1 f)) (length-good (E1 f)) (edition-good f) (locations-good l)
+    (tested _ _ 1 3 _ _ (c .before .before .before .before .before .number2 .ensures) (w .ensures) (not-true (w .result) (c .if4 .taken)))
 
 is-within-requires-4 : tie.Need-is-within-requires-4
 is-within-requires-4 c κs = search needs
 
 returns-5 : tie.Need-returns-5
-returns-5 c = bad-edges (c .before .before .before .before .before .before .before .before .before .before .before .before .before .before .args .s .now) (sym (c .before .before .before .before .before .before .before .before .before .before .before .before .is-within .ensures) ∙ not-false (c .before .before .before .before .before .before .before .before .before .before .before .before .is-within .result) (c .before .before .before .before .before .before .before .before .before .before .before .if1 .left)) (sym (c .before .before .before .before .before .before .before .before .before .before .byte .ensures) ∙ c .before .before .before .before .before .before .before .before .before .if2 .left) (ap (λ (v : ℕ). within v 1 12) (sym (c .before .before .before .before .before .before .before .before .number .ensures)) ∙ sym (c .before .before .before .before .before .is-within2 .ensures) ∙ not-false (c .before .before .before .before .before .is-within2 .result) (c .before .before .before .before .if3 .left)) (ap (λ (v : ℕ). within v 1 3) (sym (c .before .before .before .before .before .before .before .number2 .ensures)) ∙ sym (c .before .before .before .is-within3 .ensures) ∙ not-false (c .before .before .before .is-within3 .result) (c .before .before .if4 .left)) (ap (λ (v : ℕ). within v 0 32) (sym (c .before .before .before .before .before .before .number3 .ensures)) ∙ sym (c .before .is-within4 .ensures) ∙ not-true (c .before .is-within4 .result) (c .if5 .taken))
+returns-5 c =
+    let k = c .before .before in
+    let l = E3 k in
+    let f = E2 l in
+    let w = c .before .is-within4 in
+    bad-edges (bytes (E1 f)) (length-good (E1 f)) (edition-good f) (locations-good l) (clocks-good k)
+    (tested _ _ 0 32 _ _ (c .before .before .before .before .before .before .number3 .ensures) (w .ensures) (not-true (w .result) (c .if5 .taken)))
 
 cast-records-code : tie.Need-cast-records-code
-cast-records-code c = omega (arith, c .before .before .before .before .before .before .before .number2 .ensures, bounds (byteAt (c .before .before .before .before .before .before .before .before .before .before .before .before .before .before .args .s .now) 2) 1 3 (ap (λ (v : ℕ). within v 1 3) (sym (c .before .before .before .before .before .before .before .number2 .ensures)) ∙ sym (c .before .before .before .is-within3 .ensures) ∙ not-false (c .before .before .before .is-within3 .result) (c .before .before .if4 .left)))
+cast-records-code c =
+    let k = E4 c in
+    omega (arith, k .before .before .before .before .before .number2 .ensures, bounds (byteAt (bytes (E1 (E2 (E3 k)))) 2) 1 3 (clocks-good k))
 
 records-code-requires : tie.Need-records-code-requires
 records-code-requires c κs =
-    let k = bounds (byteAt (c .before .before .before .before .before .before .before .before .before .before .before .before .before .before .args .s .now) 2) 1 3 (ap (λ (v : ℕ). within v 1 3) (sym (c .before .before .before .before .before .before .before .number2 .ensures)) ∙ sym (c .before .before .before .is-within3 .ensures) ∙ not-false (c .before .before .before .is-within3 .result) (c .before .before .if4 .left)) in
-    let l = bounds (byteAt (c .before .before .before .before .before .before .before .before .before .before .before .before .before .before .args .s .now) 1) 1 12 (ap (λ (v : ℕ). within v 1 12) (sym (c .before .before .before .before .before .before .before .before .number .ensures)) ∙ sym (c .before .before .before .before .before .is-within2 .ensures) ∙ not-false (c .before .before .before .before .before .is-within2 .result) (c .before .before .before .before .if3 .left)) in
-    let e = bounds (byteAt (c .before .before .before .before .before .before .before .before .before .before .before .before .before .before .args .s .now) 3) 0 32 (ap (λ (v : ℕ). within v 0 32) (sym (c .before .before .before .before .before .before .number3 .ensures)) ∙ sym (c .before .is-within4 .ensures) ∙ not-false (c .before .is-within4 .result) (c .if5 .left)) in
-    omega (arith, c .before .before .before .before .before .before .before .before .number .ensures, c .before .before .before .before .before .before .before .number2 .ensures, c .before .before .before .before .before .before .number3 .ensures)
+    let k = E4 c in
+    let l = E3 k in
+    let s = bytes (E1 (E2 l)) in
+    omega (
+      arith,
+      l .before .before .before .before .number .ensures,
+      bounds (byteAt s 1) 1 12 (locations-good l),
+      k .before .before .before .before .before .number2 .ensures,
+      bounds (byteAt s 2) 1 3 (clocks-good k),
+      c .before .before .before .before .before .before .number3 .ensures,
+      bounds (byteAt s 3) 0 32 (edges-good c),
+    )
+
+-- the records' questions at the header's counts
+counts : (c : tie.After-records-code) → let k = E4 (c .before) in let s = bytes (E1 (E2 (E3 k))) in
+    recordsCode (k .before .before .before .before .before .number2 .result) (E3 k .before .before .before .before .number .result)
+    (c .before .before .before .before .before .before .before .number3 .result) s
+    ≡ recordsCode (byteAt s 2) (byteAt s 1) (byteAt s 3) s
+counts c =
+    let k = E4 (c .before) in
+    simp (
+      E3 k .before .before .before .before .number .ensures,
+      k .before .before .before .before .before .number2 .ensures,
+      c .before .before .before .before .before .before .before .number3 .ensures,
+    )
 
 returns-6 : tie.Need-returns-6
-returns-6 c = c .records-code .ensures ∙ counts c ∙ header-good (c .before .before .before .before .before .before .before .before .before .before .before .before .before .before .before .args .s .now) (sym (c .before .before .before .before .before .before .before .before .before .before .before .before .before .is-within .ensures) ∙ not-false (c .before .before .before .before .before .before .before .before .before .before .before .before .before .is-within .result) (c .before .before .before .before .before .before .before .before .before .before .before .before .if1 .left)) (sym (c .before .before .before .before .before .before .before .before .before .before .before .byte .ensures) ∙ c .before .before .before .before .before .before .before .before .before .before .if2 .left) (ap (λ (v : ℕ). within v 1 12) (sym (c .before .before .before .before .before .before .before .before .before .number .ensures)) ∙ sym (c .before .before .before .before .before .before .is-within2 .ensures) ∙ not-false (c .before .before .before .before .before .before .is-within2 .result) (c .before .before .before .before .before .if3 .left)) (ap (λ (v : ℕ). within v 1 3) (sym (c .before .before .before .before .before .before .before .before .number2 .ensures)) ∙ sym (c .before .before .before .before .is-within3 .ensures) ∙ not-false (c .before .before .before .before .is-within3 .result) (c .before .before .before .if4 .left)) (ap (λ (v : ℕ). within v 0 32) (sym (c .before .before .before .before .before .before .before .number3 .ensures)) ∙ sym (c .before .before .is-within4 .ensures) ∙ not-false (c .before .before .is-within4 .result) (c .before .if5 .left))
+returns-6 c =
+    let k = E4 (c .before) in
+    let l = E3 k in
+    let f = E2 l in
+    c .records-code .ensures ∙ counts c
+    ∙ header-good (bytes (E1 f)) (length-good (E1 f)) (edition-good f) (locations-good l) (clocks-good k) (edges-good (c .before))
 
 pub check-spec : {M : Type 1} → statement M
 check-spec =

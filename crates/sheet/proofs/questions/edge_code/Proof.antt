@@ -13,7 +13,8 @@ returns : tie.Need-returns
 unfolding edgeCode
 returns c =
     let a = c .before .before .before .args in
-    first-of-three (mapCode EdgeRecord (a .clocks) (a .s .now) (a .at)) (fieldsCode EdgeRecord (a .clocks) (a .s .now) (a .at)) (endsCode (a .locations) (a .s .now) (a .at)) (c .before .map-code .result) (c .before .map-code .ensures) (c .if1 .taken)
+    first-of-three (mapCode EdgeRecord (a .clocks) (a .s .now) (a .at)) (fieldsCode EdgeRecord (a .clocks) (a .s .now) (a .at))
+    (endsCode (a .locations) (a .s .now) (a .at)) (c .before .map-code .result) (c .before .map-code .ensures) (c .if1 .taken)
 
 fields-code-requires : tie.Need-fields-code-requires
 fields-code-requires c κs = search needs
@@ -22,7 +23,8 @@ returns-2 : tie.Need-returns-2
 unfolding edgeCode
 returns-2 c =
     let a = c .before .before .before .before .before .args in
-    second-of-three (mapCode EdgeRecord (a .clocks) (a .s .now) (a .at)) (fieldsCode EdgeRecord (a .clocks) (a .s .now) (a .at)) (endsCode (a .locations) (a .s .now) (a .at)) (c .before .fields-code .result) (c .before .before .before .map-code .ensures) (c .before .before .if1 .left) (c .before .fields-code .ensures) (c .if2 .taken)
+    second-of-three (mapCode EdgeRecord (a .clocks) (a .s .now) (a .at)) (fieldsCode EdgeRecord (a .clocks) (a .s .now) (a .at))
+    (endsCode (a .locations) (a .s .now) (a .at)) (c .before .fields-code .result) (c .before .before .before .map-code .ensures) (c .before .before .if1 .left) (c .before .fields-code .ensures) (c .if2 .taken)
 
 ends-code-requires : tie.Need-ends-code-requires
 ends-code-requires c κs = search needs
@@ -31,7 +33,9 @@ returns-3 : tie.Need-returns-3
 unfolding edgeCode
 returns-3 c =
     let a = c .before .before .before .before .before .before .args in
-    third-of-three (mapCode EdgeRecord (a .clocks) (a .s .now) (a .at)) (fieldsCode EdgeRecord (a .clocks) (a .s .now) (a .at)) (endsCode (a .locations) (a .s .now) (a .at)) (c .ends-code .result) (c .before .before .before .before .map-code .ensures) (c .before .before .before .if1 .left) (c .before .before .fields-code .ensures) (c .before .if2 .left) (c .ends-code .ensures)
+    third-of-three (mapCode EdgeRecord (a .clocks) (a .s .now) (a .at)) (fieldsCode EdgeRecord (a .clocks) (a .s .now) (a .at))
+    (endsCode (a .locations) (a .s .now) (a .at)) (c .ends-code .result) (c .before .before .before .before .map-code .ensures) (c .before .before .before .if1 .left)
+    (c .before .before .fields-code .ensures) (c .before .if2 .left) (c .ends-code .ensures)
 
 pub edge-code-spec : {M : Type 1} → statement M
 edge-code-spec =

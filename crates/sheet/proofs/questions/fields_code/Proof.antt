@@ -48,7 +48,8 @@ unfolding fieldsCode
 returns c =
     let a = c .before .before .before .before .before .before .args in
     let l = c .before .before .before .loop in
-    answer-no 8 16 (fieldGood (a .kind) (a .clocks) (a .s .now) (a .at)) (l .b) (search needs) (denied _ (fieldGood (a .kind) (a .clocks) (a .s .now) (a .at) (l .b)) (c .before .field-good .ensures) (c .if1 .taken))
+    answer-no 8 16 (fieldGood (a .kind) (a .clocks) (a .s .now) (a .at)) (l .b) (search needs)
+    (denied _ (fieldGood (a .kind) (a .clocks) (a .s .now) (a .at) (l .b)) (c .before .field-good .ensures) (c .if1 .taken))
 
 returns-2 : tie.Need-returns-2 Inv-loop μ-loop Inv-fields μ-fields
 unfolding fieldsCode

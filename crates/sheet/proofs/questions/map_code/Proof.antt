@@ -53,14 +53,17 @@ loop-less c = search needs
 loop-again : tie.Need-loop-again Inv-loop μ-loop Inv-map μ-map
 loop-again c =
     let a = c .before .before .before .before .before .before .before .before .before .args in
+    let f = bitGood (a .kind) (a .clocks) (mapOf (a .kind) (a .s .now) (a .at)) in
     let l = c .before .before .before .loop in
-    (search needs, each-more (l .b) (bitGood (a .kind) (a .clocks) (mapOf (a .kind) (a .s .now) (a .at))) (l .inv .1) (granted _ _ (c .before .bit-good .ensures ∙ ap (λ (m : ℕ). bitGood (a .kind) (a .clocks) m (l .b)) (c .before .before .before .before .map-of .ensures)) (c .if2 .left)))
+    (search needs, each-more (l .b) f (l .inv .1) (granted _ _ (c .before .bit-good .ensures ∙ ap (λ (m : ℕ). bitGood (a .kind) (a .clocks) m (l .b)) (c .before .before .before .before .map-of .ensures)) (c .if2 .left)))
 
 record-length-requires : tie.Need-record-length-requires Inv-loop μ-loop Inv-map μ-map
 record-length-requires c κs = search needs
 
 add-if3 : tie.Need-add-if3 Inv-loop μ-loop Inv-map μ-map
-add-if3 c = omega (arith, c .record-length .ensures, length-le (c .before .before .before .before .before .before .before .before .args .kind) (c .before .before .before .before .before .before .before .before .args .s .now) (c .before .before .before .before .before .before .before .before .args .at))
+add-if3 c =
+    let a = c .before .before .before .before .before .before .before .before .args in
+    omega (arith, c .record-length .ensures, length-le (a .kind) (a .s .now) (a .at))
 
 returns : tie.Need-returns Inv-loop μ-loop Inv-map μ-map
 returns c =
@@ -70,18 +73,26 @@ returns c =
 returns-2 : tie.Need-returns-2 Inv-loop μ-loop Inv-map μ-map
 returns-2 c =
     let a = c .before .before .before .before .before .before .before .before .before .args in
+    let f = bitGood (a .kind) (a .clocks) (mapOf (a .kind) (a .s .now) (a .at)) in
     let l = c .before .before .before .loop in
-    bad-bit (a .kind) (a .clocks) (a .s .now) (a .at) (omega (arith, c .before .before .before .before .before .before .map-bytes .ensures)) (each-fails 16 (bitGood (a .kind) (a .clocks) (mapOf (a .kind) (a .s .now) (a .at))) (l .b) (search needs) (denied _ _ (c .before .bit-good .ensures ∙ ap (λ (m : ℕ). bitGood (a .kind) (a .clocks) m (l .b)) (c .before .before .before .before .map-of .ensures)) (c .if2 .taken)))
+    bad-bit (a .kind) (a .clocks) (a .s .now) (a .at) (omega (arith, c .before .before .before .before .before .before .map-bytes .ensures))
+    (each-fails 16 f (l .b) (search needs) (denied _ _ (c .before .bit-good .ensures ∙ ap (λ (m : ℕ). bitGood (a .kind) (a .clocks) m (l .b)) (c .before .before .before .before .map-of .ensures)) (c .if2 .taken)))
 
 returns-3 : tie.Need-returns-3 Inv-loop μ-loop Inv-map μ-map
 returns-3 c =
     let a = c .before .before .before .before .before .before .before .before .before .args in
-    no-fields (a .kind) (a .clocks) (a .s .now) (a .at) (omega (arith, c .before .before .before .before .before .before .map-bytes .ensures)) (each-all 16 (bitGood (a .kind) (a .clocks) (mapOf (a .kind) (a .s .now) (a .at))) (c .before .before .before .loop .b) (search needs) (search needs) (c .before .before .before .loop .inv .1)) (omega (arith, c .before .record-length .ensures))
+    let f = bitGood (a .kind) (a .clocks) (mapOf (a .kind) (a .s .now) (a .at)) in
+    no-fields (a .kind) (a .clocks) (a .s .now) (a .at) (omega (arith, c .before .before .before .before .before .before .map-bytes .ensures))
+    (each-all 16 f (c .before .before .before .loop .b) (search needs) (search needs) (c .before .before .before .loop .inv .1))
+    (omega (arith, c .before .record-length .ensures))
 
 returns-4 : tie.Need-returns-4 Inv-loop μ-loop Inv-map μ-map
 returns-4 c =
     let a = c .before .before .before .before .before .before .before .before .before .args in
-    map-good (a .kind) (a .clocks) (a .s .now) (a .at) (omega (arith, c .before .before .before .before .before .before .map-bytes .ensures)) (each-all 16 (bitGood (a .kind) (a .clocks) (mapOf (a .kind) (a .s .now) (a .at))) (c .before .before .before .loop .b) (search needs) (search needs) (c .before .before .before .loop .inv .1)) (omega (arith, c .before .record-length .ensures))
+    let f = bitGood (a .kind) (a .clocks) (mapOf (a .kind) (a .s .now) (a .at)) in
+    map-good (a .kind) (a .clocks) (a .s .now) (a .at) (omega (arith, c .before .before .before .before .before .before .map-bytes .ensures))
+    (each-all 16 f (c .before .before .before .loop .b) (search needs) (search needs) (c .before .before .before .loop .inv .1))
+    (omega (arith, c .before .record-length .ensures))
 
 pub map-code-spec : {M : Type 1} → statement M
 map-code-spec =

@@ -19,7 +19,8 @@ abbrev μ-loop : tie.MeasureT-loop
 μ-loop s clocks locations edges at₀ i₀ at i = locations - i
 
 abbrev Inv-loop2 : tie.InvT-loop2
-Inv-loop2 s clocks locations edges at₀ e₀ at e = (e ≤ edges) × ((at ≡ recordAt EdgeRecord s (locationAt s locations) e) × ((firstOf locations (ofLocation clocks locations edges s) ≡ 0) × (firstOf e (ofEdge clocks locations edges s) ≡ 0)))
+Inv-loop2 s clocks locations edges at₀ e₀ at e = (e ≤ edges) × ((at ≡ recordAt EdgeRecord s (locationAt s locations) e)
+    × ((firstOf locations (ofLocation clocks locations edges s) ≡ 0) × (firstOf e (ofEdge clocks locations edges s) ≡ 0)))
 
 abbrev μ-loop2 : tie.MeasureT-loop2
 μ-loop2 s clocks locations edges at₀ e₀ at e = edges - e
@@ -46,7 +47,9 @@ record-length-requires :
 record-length-requires c κs = omega (arith, at-le LocationRecord (c .before .before .before .before .before .before .args .s .now) 4 (c .before .before .before .loop .i))
 
 add-at : tie.Need-add-at Inv-loop μ-loop Inv-loop2 μ-loop2 Inv-records μ-records
-add-at c = omega (arith, c .record-length .ensures, length-le LocationRecord (c .before .before .before .before .before .before .before .args .s .now) (c .before .before .before .before .loop .at), at-le LocationRecord (c .before .before .before .before .before .before .before .args .s .now) 4 (c .before .before .before .before .loop .i))
+add-at c =
+    let a = c .before .before .before .before .before .before .before .args in
+    omega (arith, c .record-length .ensures, length-le LocationRecord (a .s .now) (c .before .before .before .before .loop .at), at-le LocationRecord (a .s .now) 4 (c .before .before .before .before .loop .i))
 
 add-i : tie.Need-add-i Inv-loop μ-loop Inv-loop2 μ-loop2 Inv-records μ-records
 add-i c = search needs
@@ -56,31 +59,48 @@ loop-less c = search needs
 
 loop-again : tie.Need-loop-again Inv-loop μ-loop Inv-loop2 μ-loop2 Inv-records μ-records
 loop-again c =
+    let a = c .before .before .before .before .before .before .before .args in
     let l = c .before .before .before .before .loop in (
       search needs,
       (
-        ap₂ _+_ (l .inv .1 .0) (c .record-length .ensures ∙ ap (recordLength LocationRecord (c .before .before .before .before .before .before .before .args .s .now)) (l .inv .1 .0)) ∙ sym (at-more LocationRecord (c .before .before .before .before .before .before .before .args .s .now) 4 (l .i)),
-        first-more (l .i) (ofLocation (c .before .before .before .before .before .before .before .args .clocks) (c .before .before .before .before .before .before .before .args .locations) (c .before .before .before .before .before .before .before .args .edges) (c .before .before .before .before .before .before .before .args .s .now)) (l .inv .1 .1) (ap (locationCode (c .before .before .before .before .before .before .before .args .clocks) (c .before .before .before .before .before .before .before .args .s .now)) (sym (l .inv .1 .0)) ∙ sym (c .before .before .location-code .ensures) ∙ c .before .if1 .left),
+        ap₂ _+_ (l .inv .1 .0) (c .record-length .ensures ∙ ap (recordLength LocationRecord (a .s .now)) (l .inv .1 .0)) ∙ sym (at-more LocationRecord (a .s .now) 4 (l .i)),
+        first-more (l .i) (ofLocation (a .clocks) (a .locations) (a .edges) (a .s .now)) (l .inv .1 .1)
+            (ap (locationCode (a .clocks) (a .s .now)) (sym (l .inv .1 .0)) ∙ sym (c .before .before .location-code .ensures) ∙ c .before .if1 .left),
       ),
     )
 
 loop2-holds : tie.Need-loop2-holds Inv-loop μ-loop Inv-loop2 μ-loop2 Inv-records μ-records
 unfolding recordAt
 loop2-holds c =
+    let a = c .before .before .before .before .args in
     let l = c .before .loop in
-    let e : l .i ≡ c .before .before .before .before .args .locations = omega arith in
-    (search needs, (l .inv .1 .0 ∙ ap (recordAt LocationRecord (c .before .before .before .before .args .s .now) 4) e, (ap (λ (n : ℕ). firstOf n (ofLocation (c .before .before .before .before .args .clocks) (c .before .before .before .before .args .locations) (c .before .before .before .before .args .edges) (c .before .before .before .before .args .s .now))) (sym e) ∙ l .inv .1 .1, first-none (ofEdge (c .before .before .before .before .args .clocks) (c .before .before .before .before .args .locations) (c .before .before .before .before .args .edges) (c .before .before .before .before .args .s .now)))))
+    let e : l .i ≡ a .locations = omega arith in
+    let passed = ap (λ (n : ℕ). firstOf n (ofLocation (a .clocks) (a .locations) (a .edges) (a .s .now))) (sym e) ∙ l .inv .1 .1 in
+    (search needs, (l .inv .1 .0 ∙ ap (recordAt LocationRecord (a .s .now) 4) e, (passed, first-none (ofEdge (a .clocks) (a .locations) (a .edges) (a .s .now)))))
 
 edge-code-requires :
     tie.Need-edge-code-requires Inv-loop μ-loop Inv-loop2 μ-loop2 Inv-records μ-records
-edge-code-requires c κs = omega (arith, at-le EdgeRecord (c .before .before .before .before .before .before .args .s .now) (locationAt (c .before .before .before .before .before .before .args .s .now) (c .before .before .before .before .before .before .args .locations)) (c .before .loop2 .e), at-le LocationRecord (c .before .before .before .before .before .before .args .s .now) 4 (c .before .before .before .before .before .before .args .locations))
+edge-code-requires c κs =
+    let a = c .before .before .before .before .before .before .args in
+    omega (arith, at-le EdgeRecord (a .s .now) (locationAt (a .s .now) (a .locations)) (c .before .loop2 .e), at-le LocationRecord (a .s .now) 4 (a .locations))
 
 record-length-requires-2 :
     tie.Need-record-length-requires-2 Inv-loop μ-loop Inv-loop2 μ-loop2 Inv-records μ-records
-record-length-requires-2 c κs = omega (arith, at-le EdgeRecord (c .before .before .before .before .before .before .before .before .args .s .now) (locationAt (c .before .before .before .before .before .before .before .before .args .s .now) (c .before .before .before .before .before .before .before .before .args .locations)) (c .before .before .before .loop2 .e), at-le LocationRecord (c .before .before .before .before .before .before .before .before .args .s .now) 4 (c .before .before .before .before .before .before .before .before .args .locations))
+record-length-requires-2 c κs =
+    let a = c .before .before .before .before .before .before .before .before .args in
+    omega (arith, at-le EdgeRecord (a .s .now) (locationAt (a .s .now) (a .locations)) (c .before .before .before .loop2 .e), at-le LocationRecord (a .s .now) 4 (a .locations))
 
 add-at-2 : tie.Need-add-at-2 Inv-loop μ-loop Inv-loop2 μ-loop2 Inv-records μ-records
-add-at-2 c = omega (arith, c .record-length2 .ensures, length-le EdgeRecord (c .before .before .before .before .before .before .before .before .before .args .s .now) (c .before .before .before .before .loop2 .at), at-le EdgeRecord (c .before .before .before .before .before .before .before .before .before .args .s .now) (locationAt (c .before .before .before .before .before .before .before .before .before .args .s .now) (c .before .before .before .before .before .before .before .before .before .args .locations)) (c .before .before .before .before .loop2 .e), at-le LocationRecord (c .before .before .before .before .before .before .before .before .before .args .s .now) 4 (c .before .before .before .before .before .before .before .before .before .args .locations))
+add-at-2 c =
+    let a = c .before .before .before .before .before .before .before .before .before .args in
+    let l = c .before .before .before .before .loop2 in
+    omega (
+      arith,
+      c .record-length2 .ensures,
+      length-le EdgeRecord (a .s .now) (l .at),
+      at-le EdgeRecord (a .s .now) (locationAt (a .s .now) (a .locations)) (l .e),
+      at-le LocationRecord (a .s .now) 4 (a .locations),
+    )
 
 add-e : tie.Need-add-e Inv-loop μ-loop Inv-loop2 μ-loop2 Inv-records μ-records
 add-e c = search needs
@@ -90,13 +110,15 @@ loop2-less c = search needs
 
 loop2-again : tie.Need-loop2-again Inv-loop μ-loop Inv-loop2 μ-loop2 Inv-records μ-records
 loop2-again c =
+    let a = c .before .before .before .before .before .before .before .before .before .args in
     let l = c .before .before .before .before .loop2 in (
       search needs,
       (
-        ap₂ _+_ (l .inv .1 .0) (c .record-length2 .ensures ∙ ap (recordLength EdgeRecord (c .before .before .before .before .before .before .before .before .before .args .s .now)) (l .inv .1 .0)) ∙ sym (at-more EdgeRecord (c .before .before .before .before .before .before .before .before .before .args .s .now) (locationAt (c .before .before .before .before .before .before .before .before .before .args .s .now) (c .before .before .before .before .before .before .before .before .before .args .locations)) (l .e)),
+        ap₂ _+_ (l .inv .1 .0) (c .record-length2 .ensures ∙ ap (recordLength EdgeRecord (a .s .now)) (l .inv .1 .0)) ∙ sym (at-more EdgeRecord (a .s .now) (locationAt (a .s .now) (a .locations)) (l .e)),
         (
           l .inv .1 .1 .0,
-          first-more (l .e) (ofEdge (c .before .before .before .before .before .before .before .before .before .args .clocks) (c .before .before .before .before .before .before .before .before .before .args .locations) (c .before .before .before .before .before .before .before .before .before .args .edges) (c .before .before .before .before .before .before .before .before .before .args .s .now)) (l .inv .1 .1 .1) (ap (edgeCode (c .before .before .before .before .before .before .before .before .before .args .clocks) (c .before .before .before .before .before .before .before .before .before .args .locations) (c .before .before .before .before .before .before .before .before .before .args .s .now)) (sym (l .inv .1 .0)) ∙ sym (c .before .before .edge-code .ensures) ∙ c .before .if2 .left),
+          first-more (l .e) (ofEdge (a .clocks) (a .locations) (a .edges) (a .s .now)) (l .inv .1 .1 .1)
+              (ap (edgeCode (a .clocks) (a .locations) (a .s .now)) (sym (l .inv .1 .0)) ∙ sym (c .before .before .edge-code .ensures) ∙ c .before .if2 .left),
         ),
       ),
     )
@@ -107,29 +129,34 @@ start-code-requires c κs = search needs
 
 returns : tie.Need-returns Inv-loop μ-loop Inv-loop2 μ-loop2 Inv-records μ-records
 returns c =
+    let a = c .before .before .before .before .before .before .args in
     let l = c .before .before .before .loop in
-    let p = c .before .location-code .ensures ∙ ap (locationCode (c .before .before .before .before .before .before .args .clocks) (c .before .before .before .before .before .before .args .s .now)) (l .inv .1 .0) in
-    p ∙ location-refused (c .before .before .before .before .before .before .args .clocks) (c .before .before .before .before .before .before .args .locations) (c .before .before .before .before .before .before .args .edges) (c .before .before .before .before .before .before .args .s .now) (l .i) (search needs) (l .inv .1 .1) (λ e. c .if1 .taken (p ∙ e))
+    let p = c .before .location-code .ensures ∙ ap (locationCode (a .clocks) (a .s .now)) (l .inv .1 .0) in
+    p ∙ location-refused (a .clocks) (a .locations) (a .edges) (a .s .now) (l .i) (search needs) (l .inv .1 .1) (λ e. c .if1 .taken (p ∙ e))
 
 returns-2 : tie.Need-returns-2 Inv-loop μ-loop Inv-loop2 μ-loop2 Inv-records μ-records
 returns-2 c =
+    let a = c .before .before .before .before .before .before .before .before .args in
     let l = c .before .before .before .loop2 in
-    let p = c .before .edge-code .ensures ∙ ap (edgeCode (c .before .before .before .before .before .before .before .before .args .clocks) (c .before .before .before .before .before .before .before .before .args .locations) (c .before .before .before .before .before .before .before .before .args .s .now)) (l .inv .1 .0) in
-    p ∙ edge-refused (c .before .before .before .before .before .before .before .before .args .clocks) (c .before .before .before .before .before .before .before .before .args .locations) (c .before .before .before .before .before .before .before .before .args .edges) (c .before .before .before .before .before .before .before .before .args .s .now) (l .inv .1 .1 .0) (l .e) (search needs) (l .inv .1 .1 .1) (λ e. c .if2 .taken (p ∙ e))
+    let p = c .before .edge-code .ensures ∙ ap (edgeCode (a .clocks) (a .locations) (a .s .now)) (l .inv .1 .0) in
+    p ∙ edge-refused (a .clocks) (a .locations) (a .edges) (a .s .now) (l .inv .1 .1 .0) (l .e) (search needs) (l .inv .1 .1 .1) (λ e. c .if2 .taken (p ∙ e))
 
 returns-3 : tie.Need-returns-3 Inv-loop μ-loop Inv-loop2 μ-loop2 Inv-records μ-records
 returns-3 c =
+    let a = c .before .before .before .before .before .before .before .args in
     let l = c .before .before .loop2 in
-    let e : c .before .before .before .before .before .before .before .args .edges ≡ l .e = omega arith in
-    bytes-left (c .before .before .before .before .before .before .before .args .clocks) (c .before .before .before .before .before .before .before .args .locations) (c .before .before .before .before .before .before .before .args .edges) (c .before .before .before .before .before .before .before .args .s .now) (l .inv .1 .1 .0) (ap (λ (n : ℕ). firstOf n (ofEdge (c .before .before .before .before .before .before .before .args .clocks) (c .before .before .before .before .before .before .before .args .locations) (c .before .before .before .before .before .before .before .args .edges) (c .before .before .before .before .before .before .before .args .s .now))) e ∙ l .inv .1 .1 .1)
-    (λ q. c .if3 .taken (l .inv .1 .0 ∙ ap (recordAt EdgeRecord (c .before .before .before .before .before .before .before .args .s .now) (locationAt (c .before .before .before .before .before .before .before .args .s .now) (c .before .before .before .before .before .before .before .args .locations))) (sym e) ∙ q))
+    let e : a .edges ≡ l .e = omega arith in
+    bytes-left (a .clocks) (a .locations) (a .edges) (a .s .now) (l .inv .1 .1 .0) (ap (λ (n : ℕ). firstOf n (ofEdge (a .clocks) (a .locations) (a .edges) (a .s .now))) e ∙ l .inv .1 .1 .1)
+    (λ q. c .if3 .taken (l .inv .1 .0 ∙ ap (recordAt EdgeRecord (a .s .now) (locationAt (a .s .now) (a .locations))) (sym e) ∙ q))
 
 returns-4 : tie.Need-returns-4 Inv-loop μ-loop Inv-loop2 μ-loop2 Inv-records μ-records
 returns-4 c =
+    let a = c .before .before .before .before .before .before .before .before .args in
     let l = c .before .before .before .loop2 in
-    let e : c .before .before .before .before .before .before .before .before .args .edges ≡ l .e = omega arith in
-    c .start-code .ensures ∙ all-used (c .before .before .before .before .before .before .before .before .args .clocks) (c .before .before .before .before .before .before .before .before .args .locations) (c .before .before .before .before .before .before .before .before .args .edges) (c .before .before .before .before .before .before .before .before .args .s .now) (l .inv .1 .1 .0) (ap (λ (n : ℕ). firstOf n (ofEdge (c .before .before .before .before .before .before .before .before .args .clocks) (c .before .before .before .before .before .before .before .before .args .locations) (c .before .before .before .before .before .before .before .before .args .edges) (c .before .before .before .before .before .before .before .before .args .s .now))) e ∙ l .inv .1 .1 .1)
-    (ap (recordAt EdgeRecord (c .before .before .before .before .before .before .before .before .args .s .now) (locationAt (c .before .before .before .before .before .before .before .before .args .s .now) (c .before .before .before .before .before .before .before .before .args .locations))) e ∙ sym (l .inv .1 .0) ∙ c .before .if3 .left)
+    let e : a .edges ≡ l .e = omega arith in
+    c .start-code .ensures ∙ all-used (a .clocks) (a .locations) (a .edges) (a .s .now) (l .inv .1 .1 .0)
+    (ap (λ (n : ℕ). firstOf n (ofEdge (a .clocks) (a .locations) (a .edges) (a .s .now))) e ∙ l .inv .1 .1 .1)
+    (ap (recordAt EdgeRecord (a .s .now) (locationAt (a .s .now) (a .locations))) e ∙ sym (l .inv .1 .0) ∙ c .before .if3 .left)
 
 pub records-code-spec : {M : Type 1} → statement M
 records-code-spec =

@@ -32,7 +32,9 @@ returns-2 : tie.Need-returns-2
 returns-2 c =
     let a = c .before .before .before .before .before .before .args in
     c .byte .ensures ∙ ap (byteAt (a .s .now)) (c .before .field-place .ensures)
-    ∙ sym (ap (λ o. Option·getD o (a .absent)) (there (a .kind) (a .s .now) (a .at) (a .b) (λ z. c .before .before .if1 .left (c .before .before .before .bit .ensures ∙ ap (λ (m : ℕ). bitOf m (a .b)) (c .before .before .before .before .map-of .ensures) ∙ z))) ∙ value-byte (a .s .now) (fieldPlace (a .kind) (a .s .now) (a .at) (a .b)) (a .b) (omega arith))
+    ∙ sym (ap (λ o. Option·getD o (a .absent)) (there (a .kind) (a .s .now) (a .at) (a .b)
+    (λ z. c .before .before .if1 .left (c .before .before .before .bit .ensures ∙ ap (λ (m : ℕ). bitOf m (a .b)) (c .before .before .before .before .map-of .ensures) ∙ z)))
+    ∙ value-byte (a .s .now) (fieldPlace (a .kind) (a .s .now) (a .at) (a .b)) (a .b) (omega arith))
 
 pub byte-field-spec : {M : Type 1} → statement M
 byte-field-spec =

@@ -26,7 +26,9 @@ field-place-requires : tie.Need-field-place-requires
 field-place-requires c κs = search needs
 
 value-at-requires : tie.Need-value-at-requires
-value-at-requires c κs = omega (arith, c .field-place .ensures, place-bound (c .before .before .before .before .before .args .kind) (c .before .before .before .before .before .args .s .now) (c .before .before .before .before .before .args .at) (c .before .before .before .before .before .args .b))
+value-at-requires c κs =
+    let a = c .before .before .before .before .before .args in
+    omega (arith, c .field-place .ensures, place-bound (a .kind) (a .s .now) (a .at) (a .b))
 
 field-of-requires : tie.Need-field-of-requires
 field-of-requires c κs = search needs
@@ -38,8 +40,10 @@ returns-2 : tie.Need-returns-2
 returns-2 c =
     let a = c .before .before .before .before .before .before .before .before .args in
     c .in-range .ensures
-    ∙ ap₂ (inRange (a .clocks)) (c .before .field-of .ensures) (c .before .before .value-at .ensures ∙ ap (λ (p : ℕ). valueAt (a .s .now) p (a .b)) (c .before .before .before .field-place .ensures))
-    ∙ sym (field-is (a .kind) (a .clocks) (a .s .now) (a .at) (a .b) (λ z. c .before .before .before .before .if1 .left (c .before .before .before .before .before .bit .ensures ∙ ap (λ (m : ℕ). bitOf m (a .b)) (c .before .before .before .before .before .before .map-of .ensures) ∙ z)))
+    ∙ ap₂ (inRange (a .clocks)) (c .before .field-of .ensures)
+    (c .before .before .value-at .ensures ∙ ap (λ (p : ℕ). valueAt (a .s .now) p (a .b)) (c .before .before .before .field-place .ensures))
+    ∙ sym (field-is (a .kind) (a .clocks) (a .s .now) (a .at) (a .b)
+    (λ z. c .before .before .before .before .if1 .left (c .before .before .before .before .before .bit .ensures ∙ ap (λ (m : ℕ). bitOf m (a .b)) (c .before .before .before .before .before .before .map-of .ensures) ∙ z)))
 
 pub field-good-spec : {M : Type 1} → statement M
 field-good-spec =

@@ -26,13 +26,17 @@ field-place-requires : tie.Need-field-place-requires
 field-place-requires c κs = search needs
 
 word-requires : tie.Need-word-requires
-word-requires c κs = omega (arith, c .field-place .ensures, place-bound (c .before .before .before .before .before .args .kind) (c .before .before .before .before .before .args .s .now) (c .before .before .before .before .before .args .at) (c .before .before .before .before .before .args .b))
+word-requires c κs =
+    let a = c .before .before .before .before .before .args in
+    omega (arith, c .field-place .ensures, place-bound (a .kind) (a .s .now) (a .at) (a .b))
 
 returns-2 : tie.Need-returns-2
 returns-2 c =
     let a = c .before .before .before .before .before .before .args in
     c .word .ensures ∙ ap (wordAt (a .s .now)) (c .before .field-place .ensures)
-    ∙ sym (ap (λ o. Option·getD o 0) (there (a .kind) (a .s .now) (a .at) (a .b) (λ z. c .before .before .if1 .left (c .before .before .before .bit .ensures ∙ ap (λ (m : ℕ). bitOf m (a .b)) (c .before .before .before .before .map-of .ensures) ∙ z))) ∙ value-word (a .s .now) (fieldPlace (a .kind) (a .s .now) (a .at) (a .b)) (a .b) (omega arith))
+    ∙ sym (ap (λ o. Option·getD o 0) (there (a .kind) (a .s .now) (a .at) (a .b)
+    (λ z. c .before .before .if1 .left (c .before .before .before .bit .ensures ∙ ap (λ (m : ℕ). bitOf m (a .b)) (c .before .before .before .before .map-of .ensures) ∙ z)))
+    ∙ value-word (a .s .now) (fieldPlace (a .kind) (a .s .now) (a .at) (a .b)) (a .b) (omega arith))
 
 pub price-spec : {M : Type 1} → statement M
 price-spec =

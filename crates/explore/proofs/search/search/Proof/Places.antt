@@ -24,6 +24,7 @@ use Rattle.explore.specs.Buffers.{Buffers, buffers, LongEnough}
 use Rattle.explore.proofs.CountLaws.{Counts, counts, edge-place}
 use Rattle.explore.proofs.SearchLaws.{Searched, seeded}
 use Rattle.explore.proofs.ArcLaws.{Pushed}
+use Rattle.explore.proofs.EnterLaws.{Taken}
 use Rattle.explore.proofs.LengthLaws.{Same, long-kept}
 use Rattle.explore.proofs.search.search.Tie as tie
 
@@ -136,6 +137,20 @@ module _ (c : tie.After-step-at Inv-loop μ-loop) where
         target-is = λ low. location-is ∙ ap (locationIn sheet) (p .ensures .1 .0 low);
         here-is = λ high. location-is ∙ ap (locationIn sheet) (p .ensures .1 .1 high);
       })
+
+  pub turn : Taken (step sheet) (startNumber firstLayout (decodedMeaning sheet)) (entry (S (L c))) (here (L c)) (L c .loop .n) (L c .loop .m)
+      (t / 34) (t % 34) t (c .step-at .result)
+  turn =
+      let k = numbers (Q c) in
+      record {
+        searched = L c .loop .inv .0;
+        long = long (L c);
+        node = k .node;
+        code = k .code;
+        turn = k .turn;
+        left = Q c .loop-test .taken;
+        told = told;
+      }
 
 -- ---- what a turn with an arc has written
 
