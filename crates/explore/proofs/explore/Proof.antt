@@ -29,7 +29,9 @@ returns : tie.Need-returns
 returns c = (not-long (entry (c .before .before .before .before .before .before .before .before .before .before)) (sym (c .before .long-enough .ensures) ∙ not-true (c .before .long-enough .result) (c .if1 .taken)), refl)
 
 search-requires : tie.Need-search-requires
-search-requires c κs = long-of (entry (c .before .before .before .before .before .before .before .before .before .before .before .before .before .before .before .before .before .before .before)) (passed (c .before .before .before .before .before .before .before .before .before))
+search-requires c κs =
+    let e = c .before .before .before .before .before .before .before .before .before in
+    long-of (entry (e .before .before .before .before .before .before .before .before .before .before)) (passed e)
 
 same-length : tie.Need-same-length
 same-length c = C c .search .kept .1 .0

@@ -141,8 +141,7 @@ returns : tie.Need-returns Inv-loop μ-loop
 returns c =
     let e = F c in
     let a = T e in
-    let l = L a in
-    (S l .pre, stopped (turn a) (e .before .before .before .before .before .before .if2 .left) _ _ _ _ _ (e .enter .ensures) (c .if3 .taken))
+    (S (L a) .pre, stopped (turn a) (e .before .before .before .before .before .before .if2 .left) _ _ _ _ _ (e .enter .ensures) (c .if3 .taken))
 
 join-requires : tie.Need-join-requires Inv-loop μ-loop
 join-requires c κs =
@@ -181,7 +180,6 @@ loop-again-3 c =
     let p = P (c .before) in
     let e = E (J p) in
     let a = T e in
-    let l = L a in
     (new-node (turn a) (e .before .before .before .before .before .before .if2 .left) (after p) _ (e .enter .ensures) (J p .before .before .before .before .if3 .left) (pushed p) (c .if4 .taken), kept p)
 
 loop-less-4 : tie.Need-loop-less-4 Inv-loop μ-loop
@@ -192,7 +190,6 @@ loop-again-4 c =
     let p = P (c .before) in
     let e = E (J p) in
     let a = T e in
-    let l = L a in
     (known-node (turn a) (e .before .before .before .before .before .before .if2 .left) (after p) _ (e .enter .ensures) (J p .before .before .before .before .if3 .left) (pushed p) (c .if4 .left), kept p)
 
 same-length-10 : tie.Need-same-length-10 Inv-loop μ-loop
