@@ -18,7 +18,7 @@ each-true least a b c d e =
       (leb-true least b (&&-left (leb least b) (leb least c && leb least d) f), (leb-true least c (&&-left (leb least c) (leb least d) h), leb-true least d (&&-right (leb least c) (leb least d) h))),
     )
 
-pub each-is : (least a b c d : ℕ) → least ≤ a → least ≤ b → least ≤ c → least ≤ d → each least a b c d ≡ true
+each-is : (least a b c d : ℕ) → least ≤ a → least ≤ b → least ≤ c → least ≤ d → each least a b c d ≡ true
 each-is least a b c d p q r s = simp (le-leb least a p, le-leb least b q, le-leb least c r, le-leb least d s)
 
 -- the whole test

@@ -7,4 +7,3 @@ pub mod LengthLaws
 pub mod ArcLaws
 pub mod TurnLaws
 pub mod EnterLaws
-pub mod HandLaws

@@ -44,7 +44,7 @@ abbrev pub seeded : Buffers → Buffers
 seeded b = buffers (set (b .node) 0 0) (set (b .sorted) 0 0) (set (b .order) 0 0) (b .tree) (b .from) (b .to) (b .code) (b .cost) (b .reward)
 
 -- what stands beyond the nodes found is what stood there before that
-pub rest-seeded : (b b' : Buffers) (n m : ℕ) → 0 < n → Rest (seeded b) b' n m → Rest b b' n m
+rest-seeded : (b b' : Buffers) (n m : ℕ) → 0 < n → Rest (seeded b) b' n m → Rest b b' n m
 rest-seeded b b' n m h r = record {
   node = r .node ∙ drop-set-lt n (b .node) 0 0 h;
   sorted = r .sorted ∙ drop-set-lt n (b .sorted) 0 0 h;

@@ -108,7 +108,7 @@ module _ (step : ℕ → ℕ → Option (Priced ℕ)) (start : ℕ) (b₀ b b' :
           (λ q. let lu : u < n = omega (arith, q .0) in omega (arith, keep-tree u lu, q .1 .1, g .tree .arc u lu p)) (olds v l);
     }
 
-    pub push : t < 34 * n → Index (b' .node) (b' .sorted) (b' .order) n' → Rest b₀ b' n' (m + 1) → Searched step start b₀ b' n' (m + 1) (t + 1)
+    push : t < 34 * n → Index (b' .node) (b' .sorted) (b' .order) n' → Rest b₀ b' n' (m + 1) → Searched step start b₀ b' n' (m + 1) (t + 1)
     push ht index rest = record {
       some-node = omega (arith, g .some-node);
       few-nodes = room;

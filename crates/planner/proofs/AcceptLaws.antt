@@ -29,7 +29,7 @@ module _ {A : Type 0} {zero : A} {s : List A} {I : List ℕ} {n : ℕ} {l l' : L
   pub rest : (i : ℕ) → n ≤ i → i < length (cleared zero l' n) → getD (cleared zero l' n) i zero ≡ zero
   rest i h k = cleared-rest zero l' n there i h (omega (arith, cleared-sized zero l' n there))
 
-  pub written-sized : length (cleared zero l' n) ≡ length l
+  written-sized : length (cleared zero l' n) ≡ length l
   written-sized = cleared-sized zero l' n there ∙ p .sized
 
 -- the nodes stay in front

@@ -46,7 +46,7 @@ module _ {F T C : List ℕ} {Z : List ℤ} {R order tree : List ℕ} {n : ℕ} (
 
   pub never : W ≡ Malformed → ⊥
   never e = subst Is e z .0
-      (record { graph = h .graph; potential-room = room (pos 0) (h .graph .nodes); cycle-room = room {A = ℕ} 0 (h .graph .nodes) })
+      (record { graph = h .graph; potential-room = room 2048 (pos 0) (h .graph .nodes); cycle-room = room {A = ℕ} 2048 0 (h .graph .nodes) })
 
   pub acyclic : W ≡ NoCycle → Acyclic F T (length F)
   acyclic e = subst Is e z .1

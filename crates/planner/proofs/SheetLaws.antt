@@ -4,11 +4,12 @@ use mathlib.Core.List.{List}
 use Prim.Native.Nat.{ℕ, _≤_, _<_}
 use native.Mathlib.Omega.{arith}
 use lib.IntN.{pos}
-use lib.ListN.{length, take, replicate, length-replicate}
+use lib.ListN.{length, take, replicate}
 use lib.Seq.{getD-take, length-take-le}
 use Rattle.sheet.specs.declared.Sheet.{Sheet}
 use Rattle.walks.specs.Walk.{at}
 use Rattle.lasso.specs.Answer.{TreeArc}
+use Rattle.ratio.proofs.VerdictLaws.{room}
 use Rattle.contract.specs.Plan as Contract
 use Rattle.contract.specs.Plan.{stepOn, startOf}
 use Rattle.contract.specs.Explored.{Explored, Overfull, stepRead, startRead, Sorted}
@@ -25,20 +26,17 @@ abbrev pub fresh : List ℕ → Buffers
 fresh N = buffers (replicate 2048 0) N (replicate 2048 0) (replicate 2048 0)
     (replicate 69632 0) (replicate 69632 0) (replicate 69632 0) (replicate 69632 (pos 0)) (replicate 69632 0)
 
-at-least : {A : Type 0} (n : ℕ) (x : A) → n ≤ length (replicate n x)
-at-least n x = omega (arith, length-replicate n x)
-
-pub fresh-long : (N : List ℕ) → 2048 ≤ length N → LongEnough (fresh N)
+fresh-long : (N : List ℕ) → 2048 ≤ length N → LongEnough (fresh N)
 fresh-long N h = record {
-  node = at-least {A = ℕ} 2048 0;
+  node = room {A = ℕ} 2048 0 (omega arith);
   sorted = h;
-  order = at-least {A = ℕ} 2048 0;
-  tree = at-least {A = ℕ} 2048 0;
-  from = at-least {A = ℕ} 69632 0;
-  to = at-least {A = ℕ} 69632 0;
-  code = at-least {A = ℕ} 69632 0;
-  cost = at-least 69632 (pos 0);
-  reward = at-least {A = ℕ} 69632 0;
+  order = room {A = ℕ} 2048 0 (omega arith);
+  tree = room {A = ℕ} 2048 0 (omega arith);
+  from = room {A = ℕ} 69632 0 (omega arith);
+  to = room {A = ℕ} 69632 0 (omega arith);
+  code = room {A = ℕ} 69632 0 (omega arith);
+  cost = room 69632 (pos 0) (omega arith);
+  reward = room {A = ℕ} 69632 0 (omega arith);
 }
 
 module _ (read : Sheet) (N : List ℕ) (b : Buffers) (A : Outcome) (z : Answered (stepRead read) (startRead read) (fresh N) b A) where

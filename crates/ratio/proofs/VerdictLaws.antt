@@ -16,9 +16,9 @@ use Rattle.ratio.specs.Turns.{InHand, Settled}
 use Rattle.ratio.proofs.Searches.{simple-of, idle}
 use Rattle.walks.specs.Weight.{weightOf}
 
--- a buffer of 2,048 entries has room
-pub room : {A : Type 0} {n : ℕ} (x : A) → n ≤ 2048 → n ≤ length (replicate 2048 x)
-room x h = omega (arith, length-replicate 2048 x)
+-- a new list of k entries has room for as many
+pub room : {A : Type 0} {n : ℕ} (k : ℕ) (x : A) → n ≤ k → n ≤ length (replicate k x)
+room k x h = omega (arith, length-replicate k x)
 
 -- the search at (0, b, -1)
 module _ (F T : List ℕ) (cost : List ℤ) (reward : List ℕ) (n b : ℕ) (hb : b ≤ 2049) (potential potential' : List ℤ) (arcs arcs' : List ℕ)

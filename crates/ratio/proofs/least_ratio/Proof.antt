@@ -59,7 +59,7 @@ beyond-requires c κs =
     let g = found (now (s .args .from)) (now (s .args .to)) (now (s .args .cost)) (now (s .args .reward)) (s .args .nodes) 0 (omega arith)
     (replicate 2048 (pos 0)) (D r) (replicate 2048 0) (arcs r) (r .negative-cycle .result) (r .negative-cycle .ensures) k (f .found .given .1) in
     let h = first-hand (now (s .args .from)) (now (s .args .to)) (now (s .args .cost)) (now (s .args .reward)) (s .args .nodes)
-    (replicate 2048 (pos 0)) (D r) (replicate 2048 0) (arcs r) k (r .negative-cycle .kept .1 .1 .1 .1 .1 .1 .1 .0) (room {A = ℕ} 0 (g .0 .nodes)) (g .1) in
+    (replicate 2048 (pos 0)) (D r) (replicate 2048 0) (arcs r) k (r .negative-cycle .kept .1 .1 .1 .1 .1 .1 .1 .0) (room {A = ℕ} 2048 0 (g .0 .nodes)) (g .1) in
     (record { graph = g .0; potential-room = omega arith; cycle-room = omega arith }, h)
 
 returns-3 : tie.Need-returns-3
@@ -68,7 +68,7 @@ returns-3 c =
     let s = S r in
     let no = no-graph (now (s .args .from)) (now (s .args .to)) (now (s .args .cost)) (now (s .args .reward)) (s .args .nodes) 0 (omega arith)
     (replicate 2048 (pos 0)) (D r) (replicate 2048 0) (arcs r) (r .negative-cycle .result) (r .negative-cycle .ensures) in
-    ((λ w. no (room (pos 0) (w .graph .nodes)) (room {A = ℕ} 0 (w .graph .nodes)) (c .enum-told .given .1) (w .graph)), record { potentials = refl; cycles = refl })
+    ((λ w. no (room 2048 (pos 0) (w .graph .nodes)) (room {A = ℕ} 2048 0 (w .graph .nodes)) (c .enum-told .given .1) (w .graph)), record { potentials = refl; cycles = refl })
 
 returns-4 : tie.Need-returns-4
 returns-4 c =

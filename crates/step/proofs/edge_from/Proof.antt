@@ -1,4 +1,5 @@
 -- An edge that is there, by its records.
+use native.Mathlib.Omega.{arith}
 use mathlib.Core.Path.{_∙_}
 use Rattle.step.proofs.SheetLaws.{no-edge, edge-there}
 use borrow.Author.Needs.{needs}
@@ -16,7 +17,7 @@ returns c =
     let args = c .before .before .before .args in
     let pre = c .before .before .before .pre in
     let if1 = c .before .if1 in
-    c .refused .ensures ∙ no-edge (args .sheet) (args .number) (args .e) (pre) (if1 .taken)
+    c .refused .ensures ∙ no-edge (args .sheet) (args .number) (args .e) (pre) (omega (arith, if1 .taken))
 
 edge-of-requires : tie.Need-edge-of-requires
 edge-of-requires c κs = search needs

@@ -74,7 +74,7 @@ weight-requires c κs = let s = S (U (c .before)) in let g = s .pre .0 .graph in
 beyond-requires : tie.Need-beyond-requires
 unfolding weightAt
 beyond-requires c κs = let v = V′ c in let u = U v in let s = S u in (
-  Source u .2,
+  omega (arith, Source u, Target v),
   (
     light _ _ _ (Weight c) (small (s .pre .0 .graph) (s .pre .0 .in-range) _ (s .pre .1)),
     summable (s .pre .0) (s .pre .1) (u .entry .ensures) (v .before .if1 .left),

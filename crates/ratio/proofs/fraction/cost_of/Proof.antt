@@ -1,5 +1,4 @@
 -- A word of 16 bits is read as it is.
-use mathlib.Core.Path.{_≡_}
 use Prim.Native.Nat.{_≤_, _<_}
 use borrow.Author.Needs.{needs, sfits-of}
 use native.Mathlib.Omega.{arith}
@@ -7,8 +6,7 @@ use denote.Ref.{now}
 use lib.IntN.{ℤ, natAbs}
 use lib.Signed.{mag}
 use mir.Syntax.{w16, w64}
-use mir.Val.{SFits, toZ, ofZ}
-use mir.Facts.{toZ-ofZ}
+use mir.Val.{toZ, ofZ}
 use Rattle.integers.proofs.Parts.{abs-parts, mag-parts}
 use Rattle.integers.proofs.Machine.{widened-fits, widened}
 use Rattle.walks.specs.Walk.{atℤ}

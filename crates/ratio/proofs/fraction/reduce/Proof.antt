@@ -1,5 +1,5 @@
 -- Divided by the greatest common divisor, with the sign of the cost.
-use mathlib.Core.Path.{_≡_, subst, subst⁻¹}
+use mathlib.Core.Path.{_≡_, ap₂, subst, subst⁻¹, _∙_}
 use Prim.Native.Nat.{ℕ, _/_, _<_}
 use native.Mathlib.Nat.{div-le-self}
 use borrow.Author.Needs.{needs, sfits-of}
@@ -44,7 +44,8 @@ returns c =
     let a = c .before .before .before .args in
     let g = c .before .gcd .result in
     let e : toZ w64 (ofZ w64 (c .with-sign .result)) ≡ signedAs (natAbs (a .cost) / g) (a .cost) =
-    cc (toZ-ofZ w64 (a .cost) (c .before .before .before .fits .cost), toZ-ofZ w64 (c .with-sign .result) (sfits-of (c .with-sign .ok)), size (c .before)) in
+    toZ-ofZ w64 (c .with-sign .result) (sfits-of (c .with-sign .ok)) ∙ c .with-sign .ensures
+    ∙ ap₂ (λ (n : ℕ) (z : ℤ). signedAs (n / g) z) (size (c .before)) (toZ-ofZ w64 (a .cost) (c .before .before .before .fits .cost)) in
     subst⁻¹ (λ (p : ℤ). Reduced (a .cost) (a .reward) p (a .reward / g)) e (reduced (a .cost) (a .reward) g (common (c .before)) (c .before .before .before .pre .1))
 
 pub reduce-spec : {M : Type 1} → statement M

@@ -78,7 +78,7 @@ returns c =
     let g = s .pre .0 .graph in
     absurd (no-graph (now (s .args .from)) (now (s .args .to)) (now (s .args .cost)) (now (s .args .reward)) (s .args .nodes) 2049 (omega arith)
     (replicate 2048 (pos 0)) (D r) (replicate 2048 0) (arcs r) (r .negative-cycle .result) (r .negative-cycle .ensures)
-    (room (pos 0) (g .nodes)) (room {A = ℕ} 0 (g .nodes)) (c .enum-told .given .1) g)
+    (room 2048 (pos 0) (g .nodes)) (room {A = ℕ} 2048 0 (g .nodes)) (c .enum-told .given .1) g)
 
 returns-2 : tie.Need-returns-2
 returns-2 c =
