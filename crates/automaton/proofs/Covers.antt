@@ -19,7 +19,7 @@ use Rattle.automaton.specs.Nodes.{Node, startNode}
 use Rattle.automaton.specs.Steps.{step, moveStep}
 use Rattle.automaton.specs.Walks.{Reachable}
 use Rattle.automaton.specs.Weights.{weight, Feasible}
-use Rattle.automaton.specs.Runs.{State, Member, delay, edge, within, later, after, mayTake, takes, run, startState}
+use Rattle.automaton.specs.Runs.{State, Member, delay, edge, withinBounds, later, after, mayTake, takes, run, startState}
 use Rattle.automaton.proofs.Tests.{by-bool, &&-left, only-test, only-value}
 use Rattle.automaton.proofs.Lists.{each-all, map-cong, map-same, every-imp}
 use Rattle.automaton.proofs.Bounds.{less-within}
@@ -81,7 +81,7 @@ module _ (A : Automaton) (p : ℤ) (q : ℕ) (π : Node → ℤ) (ok : Feasible 
 
   -- ---- one nth of delay
 
-  module _ (n : ℕ) (s : State) (fit : within A (suc n) (tick s) ≡ true) where
+  module _ (n : ℕ) (s : State) (fit : withinBounds A (suc n) (tick s) ≡ true) where
     some-n : 0 < suc n
     some-n = omega arith
 
@@ -127,7 +127,7 @@ module _ (A : Automaton) (p : ℤ) (q : ℕ) (π : Node → ℤ) (ok : Feasible 
 
   -- ---- a delay
 
-  delay-passes : (n d : ℕ) (s : State) → within A (suc n) (later d s) ≡ true
+  delay-passes : (n d : ℕ) (s : State) → withinBounds A (suc n) (later d s) ≡ true
       → Passes A π (suc n) (weight p q (pos d *ℤ A .costRate (s .location)) (d * A .rewardRate (s .location))) s (later d s)
   unfolding rate
   delay-passes n zero s h = subst₂ (λ (w : ℤ) (x : State). Passes A π (suc n) w s x)
@@ -143,7 +143,7 @@ module _ (A : Automaton) (p : ℤ) (q : ℕ) (π : Node → ℤ) (ok : Feasible 
       grown : map suc (map (λ v. v + d) (s .values)) ≡ map (λ v. v + suc d) (s .values)
       grown = map-map suc (λ v. v + d) (s .values) ∙ map-cong (λ v. suc (v + d)) (λ v. v + suc d) (s .values) (each-all (λ v. sym (add-suc v d)))
 
-      shorter : within A (suc n) (later d s) ≡ true
+      shorter : withinBounds A (suc n) (later d s) ≡ true
       shorter = unfold inBounds in every-imp (λ j. upperHoldsNths (suc n) (A .bound (s .location) j)) (λ j. upperHoldsNths (suc n) (A .bound (s .location) j))
           (λ v. v + d) (λ v. v + suc d) (s .values)
           (λ x j. less-within (suc n) (x + d) (x + suc d) (A .bound (s .location) j) (omega arith)) h
@@ -155,8 +155,8 @@ module _ (A : Automaton) (p : ℤ) (q : ℕ) (π : Node → ℤ) (ok : Feasible 
   unfolding takes
   member-passes few n s (delay d) x e =
       let y : Priced State = record { to = later d s; cost = pos d *ℤ A .costRate (s .location); reward = d * A .rewardRate (s .location) } in
-      subst (λ (y : Priced State). Passes A π (suc n) (weight p q (y .cost) (y .reward)) s (y .to)) (only-value (within A (suc n) (later d s)) y e)
-      (delay-passes n d s (only-test (within A (suc n) (later d s)) y e))
+      subst (λ (y : Priced State). Passes A π (suc n) (weight p q (y .cost) (y .reward)) s (y .to)) (only-value (withinBounds A (suc n) (later d s)) y e)
+      (delay-passes n d s (only-test (withinBounds A (suc n) (later d s)) y e))
   member-passes few n s (edge d) x e =
       let y : Priced State = record { to = after A d s; cost = pos (suc n) *ℤ A .cost d; reward = suc n * A .reward d } in
       subst (λ (y : Priced State). Passes A π (suc n) (weight p q (y .cost) (y .reward)) s (y .to)) (only-value (mayTake A (suc n) d s) y e)

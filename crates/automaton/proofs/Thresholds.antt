@@ -15,7 +15,7 @@ use Rattle.automaton.specs.Ranks.{rank, closeUp, mask}
 use Rattle.automaton.specs.Automaton.{Automaton, inBounds, inGuards}
 use Rattle.automaton.specs.Nodes.{Region, Node, intervals, inside, startNode}
 use Rattle.automaton.specs.Steps.{edgeTo, edgeAllowed, edgeStep}
-use Rattle.automaton.specs.Runs.{State, within, after, mayTake, startState}
+use Rattle.automaton.specs.Runs.{State, withinBounds, after, mayTake, startState}
 use Rattle.automaton.proofs.Tests.{only-yes}
 use Rattle.automaton.proofs.Lists.{occurs-map, every-cong, zip-map, map-zeros}
 use Rattle.automaton.proofs.Ranks.{rank-zero, rank-out, rank-whole, map-mask, rank-mask, close-mask}
@@ -66,7 +66,7 @@ guards-agree A n e vs p = ap (inGuards lowerHolds upperHolds A e) (intervals-of 
           ap₂ _&&_ (lower-agrees n v k p w (A .lower e j)) (present-agrees n v k p w (A .upper e j)));
     })
 
-pub inside-agrees : (A : Automaton) (n : ℕ) (s : State) (t : ℕ) → 0 < n → inside A (nodeAt n s t) ≡ within A n s
+pub inside-agrees : (A : Automaton) (n : ℕ) (s : State) (t : ℕ) → 0 < n → inside A (nodeAt n s t) ≡ withinBounds A n s
 unfolding nodeAt
 inside-agrees A n s t p = bounds-agree A n (s .location) (s .values) p
 

@@ -16,7 +16,7 @@ use Rattle.automaton.specs.Automaton.{Automaton, inBounds}
 use Rattle.automaton.specs.Priced.{free}
 use Rattle.automaton.specs.Nodes.{Node, inside}
 use Rattle.automaton.specs.Steps.{unitStep, carryWhole, carryClass, moveStep}
-use Rattle.automaton.specs.Runs.{State, within}
+use Rattle.automaton.specs.Runs.{State, withinBounds}
 use Rattle.automaton.proofs.Tests.{by-bool, clash}
 use Rattle.automaton.proofs.Lists.{occurs-tail, occurs-map, occurs-not, Each, each-all, each-map, map-cong, map-same, every-imp, zip-map}
 use Rattle.automaton.proofs.Ranks.{rank-zero, rank-lt, rank-eqb, rank-suc, close-suc}
@@ -104,7 +104,7 @@ module _ (A : Automaton) (n : ℕ) (p : 0 < n) (s : State) where
   }
 
   -- the clocks may grow by an nth
-  module _ (fit : within A n (tick s) ≡ true) where
+  module _ (fit : withinBounds A n (tick s) ≡ true) where
     midway-inside : (i : ℕ) → inside A (midway n s i) ≡ true
     unfolding midway inBounds
     midway-inside i = ap (inBounds upperHolds A (s .location))

@@ -40,7 +40,9 @@ largestClass u = largest (u .region .class)
 abbrev pub point : Node → List ℕ
 point u = zipWith (λ h k. oneMoreIf (ltb (u .corner) k) h) (u .region .whole) (u .region .class)
 
--- "A node is a location, a region that lies within that location's bounds, and a corner."
+-- "A node is a location, a region that lies within that location's bounds, and a corner." That a whole part is "0 to 12" is not asked for here:
+-- the bytes of a checked sheet's bounds are 25 at most (question 8), and a region within such bounds has no larger one (Nodes.antt, whole-small;
+-- Reached.antt, reached-whole).
 unfoldable pub isNode : Automaton → Node → Bool
 isNode A u = ltb (u .location) (A .locations) && (eqb (length (u .region .whole)) (A .clocks) && (eqb (length (u .region .class)) (A .clocks)
     && (usesEachRank (u .region .class) && (leb (u .corner) (largestClass u) && inside A u))))

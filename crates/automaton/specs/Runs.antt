@@ -23,8 +23,8 @@ pub data Member : Type 0 where
   edge : ℕ → Member
 
 -- "within the location's bounds"
-abbrev pub within : Automaton → ℕ → State → Bool
-within A n s = inBounds (upperHoldsNths n) A (s .location) (s .values)
+abbrev pub withinBounds : Automaton → ℕ → State → Bool
+withinBounds A n s = inBounds (upperHoldsNths n) A (s .location) (s .values)
 
 -- "A delay of d ≥ 0 nths adds d to every clock"
 abbrev pub later : ℕ → State → State
@@ -36,12 +36,12 @@ after A e s = record { location = A .target e; values = mask (A .reset e) (s .va
 
 abbrev pub mayTake : Automaton → ℕ → ℕ → State → Bool
 mayTake A n e s = ltb e (A .edges) && (eqb (A .source e) (s .location)
-    && (inGuards (lowerHoldsNths n) (upperHoldsNths n) A e (s .values) && within A n (after A e s)))
+    && (inGuards (lowerHoldsNths n) (upperHoldsNths n) A e (s .values) && withinBounds A n (after A e s)))
 
 -- One member, where it is allowed. A delay "must end within the location's bounds".
 -- "The run's cost times n is n times its edges' costs plus each delay in nths times the rate of its location; reward likewise"
 unfoldable pub takes : Automaton → ℕ → State → Member → Option (Priced State)
-takes A n s (delay d) = only (within A n (later d s))
+takes A n s (delay d) = only (withinBounds A n (later d s))
     (record { to = later d s; cost = pos d *ℤ A .costRate (s .location); reward = d * A .rewardRate (s .location) })
 takes A n s (edge e) = only (mayTake A n e s)
     (record { to = after A e s; cost = pos n *ℤ A .cost e; reward = n * A .reward e })

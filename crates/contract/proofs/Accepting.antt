@@ -15,13 +15,13 @@ use Rattle.automaton.specs.Weights as Steps
 use Rattle.automaton.proofs.Tests.{by-order}
 use Rattle.automaton.proofs.Potentials.{least-feasible}
 use Rattle.walks.specs.Walk.{at, atℤ}
-use Rattle.walks.specs.Weight.{LeastWeight, Potential}
+use Rattle.walks.specs.Weight.{LeastWeight, PotentialOrMark}
 use Rattle.walks.proofs.Weights.{least-of}
 use Rattle.contract.specs.Questions.{IdleCycle}
 use Rattle.contract.specs.Accepted.{NodeList, PotentialList}
 use Rattle.contract.specs.Explored.{Found, Explored, Sorted}
 use Rattle.contract.specs.Certificate.{indexOf}
-use Rattle.contract.proofs.Hand.{weightAt}
+use Rattle.contract.proofs.Checklist.{weightAt}
 use Rattle.contract.proofs.Indices.{first-at}
 use Rattle.contract.proofs.Arcs.{listed, all-reached}
 use Rattle.contract.proofs.Searches.{potential}
@@ -49,7 +49,7 @@ module _ {step : ℕ → ℕ → Option (Priced ℕ)} {start : ℕ} {g : Found} 
 
   -- ---- the potentials
   module _ (p : ℤ) (q : ℕ) (D : List ℤ)
-      (found : (v : ℕ) → v < g .n → Potential (g .from) (g .to) (g .m) (weightAt p q g) v (atℤ D v)) where
+      (found : (v : ℕ) → v < g .n → PotentialOrMark (g .from) (g .to) (g .m) (weightAt p q g) v (atℤ D v)) where
     least : (v : ℕ) → v < g .n → LeastWeight (g .from) (g .to) (g .m) (weightAt p q g) v (atℤ D v) × (natAbs (atℤ D v) < 1000000000000000)
     least v h = least-of (g .from) (g .to) (g .m) (weightAt p q g) v (atℤ D v) (found v h) (all-reached x v h)
 

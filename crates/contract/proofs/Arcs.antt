@@ -40,7 +40,7 @@ pub record Route (g : Found) (a : ℕ) (codes : List ℕ) (z : ℕ) (c : ℤ) (r
   pub below : end < g .n
   pub is : at (g .node) end ≡ z
   pub arcs : List ℕ
-  pub walk : Graph.Walk (g .from) (g .to) (g .m) a arcs end
+  pub walk : Graph.ArcWalk (g .from) (g .to) (g .m) a arcs end
   pub cost : costOf g arcs ≡ c
   pub reward : rewardOf g arcs ≡ r
   pub codes-are : codesOf g arcs ≡ codes
@@ -50,7 +50,7 @@ pub record CycleOf (g : Found) (c : ℤ) (r : ℕ) : Type 0 where
   pub node : ℕ
   pub arcs : List ℕ
   pub reached : Graph.Reached (g .from) (g .to) (g .m) node
-  pub cycle : Graph.Cycle (g .from) (g .to) (g .m) node arcs
+  pub cycle : Graph.ArcCycle (g .from) (g .to) (g .m) node arcs
   pub cost : costOf g arcs ≡ c
   pub reward : rewardOf g arcs ≡ r
 
@@ -65,7 +65,7 @@ module _ {step : ℕ → ℕ → Option (Priced ℕ)} {start : ℕ} {g : Found} 
   }
 
   -- a walk along arcs is a walk by their codes
-  pub walk-of : (a : ℕ) (l : List ℕ) (b : ℕ) → Graph.Walk (g .from) (g .to) (g .m) a l b
+  pub walk-of : (a : ℕ) (l : List ℕ) (b : ℕ) → Graph.ArcWalk (g .from) (g .to) (g .m) a l b
       → Walk step (at (g .node) a) (codesOf g l) (at (g .node) b) (costOf g l) (rewardOf g l)
   unfolding chain
   walk-of a [] b w = record { walks = ap (λ (i : ℕ). some (record { to = at (g .node) i; cost = pos 0; reward = 0 })) w }
@@ -111,7 +111,7 @@ module _ {step : ℕ → ℕ → Option (Priced ℕ)} {start : ℕ} {g : Found} 
   pub start-route : (l : List ℕ) (z : ℕ) (c : ℤ) (r : ℕ) → Walk step start l z c r → Route g 0 l z c r
   start-route l z c r w = route-of 0 l z c r (x .some-node) (subst (λ (s : ℕ). Walk step s l z c r) (sym (x .first)) w)
 
-  pub start-walk : (l : List ℕ) (b : ℕ) → Graph.Walk (g .from) (g .to) (g .m) 0 l b
+  pub start-walk : (l : List ℕ) (b : ℕ) → Graph.ArcWalk (g .from) (g .to) (g .m) 0 l b
       → Walk step start (codesOf g l) (at (g .node) b) (costOf g l) (rewardOf g l)
   start-walk l b w = subst (λ (s : ℕ). Walk step s (codesOf g l) (at (g .node) b) (costOf g l) (rewardOf g l)) (x .first) (walk-of 0 l b w)
 
@@ -124,10 +124,10 @@ module _ {step : ℕ → ℕ → Option (Priced ℕ)} {start : ℕ} {g : Found} 
   all-reached a h =
       let r = x .reachable a h in
       let k = start-route (r .codes) (at (g .node) a) (r .cost) (r .reward) (r .walk) in
-      record { path = k .arcs; walk = subst (Graph.Walk (g .from) (g .to) (g .m) 0 (k .arcs)) (x .distinct (k .end) a (k .below) h (k .is)) (k .walk) }
+      record { path = k .arcs; walk = subst (Graph.ArcWalk (g .from) (g .to) (g .m) 0 (k .arcs)) (x .distinct (k .end) a (k .below) h (k .is)) (k .walk) }
 
   -- a cycle of arcs that is reached is a reachable cycle
-  pub cycle-steps : (a : ℕ) (l : List ℕ) → Graph.Reached (g .from) (g .to) (g .m) a → Graph.Cycle (g .from) (g .to) (g .m) a l
+  pub cycle-steps : (a : ℕ) (l : List ℕ) → Graph.Reached (g .from) (g .to) (g .m) a → Graph.ArcCycle (g .from) (g .to) (g .m) a l
       → ReachableCycle step start (costOf g l) (rewardOf g l)
   cycle-steps a l r c = record {
     node = at (g .node) a;
@@ -148,7 +148,7 @@ module _ {step : ℕ → ℕ → Option (Priced ℕ)} {start : ℕ} {g : Found} 
         reached = all-reached (i .index) (i .below);
         cycle = record {
           some = omega (arith, o .cycle .some-step, length-map (k .arcs) (at (g .code)), ap length (k .codes-are));
-          walk = subst (Graph.Walk (g .from) (g .to) (g .m) (i .index) (k .arcs)) (x .distinct (k .end) (i .index) (k .below) (i .below) (k .is)) (k .walk);
+          walk = subst (Graph.ArcWalk (g .from) (g .to) (g .m) (i .index) (k .arcs)) (x .distinct (k .end) (i .index) (k .below) (i .below) (k .is)) (k .walk);
         };
         cost = k .cost;
         reward = k .reward;

@@ -116,4 +116,4 @@ module _ (bytes : List ℕ) (before after : Buffers) (x : Answer) (long : LongEn
       )
   plan-answers (refuses r) o =
       let e = refusal-unique bytes before before same-lengths (x .refusal) r (h .judged) (o .judged before long) in
-      h .numbers (omega (arith, o .some-number)) ∙ ap Plan.refused e
+      h .numbers (omega (arith, o .some-number)) ∙ ap Plan.refusedPlan e

@@ -7,7 +7,7 @@ use lib.Dec.{leb, ltb, eqb}
 use lib.ListN.{length}
 use Rattle.sheet.specs.Bytes.{byteAt}
 use Rattle.sheet.specs.Maps.{stands}
-use Rattle.sheet.specs.Fields.{first, within}
+use Rattle.sheet.specs.Fields.{firstEdition, isWithin}
 use Rattle.sheet.specs.Records.{mapBytes, mapOf, boundAt, recordLength, recordAt, locationAt, locationsIn, clocksIn, edgesIn}
 use Rattle.sheet.specs.Questions.{ask, orElse, each, firstOf, bitGood, mapCode, fieldGood, fieldsCode, boundsCode, endsCode, locationCode, edgeCode}
 use Rattle.sheet.specs.Questions.{startCode, recordsCode, checkOf}
@@ -43,7 +43,7 @@ location-low : (k : ℕ) (s : List ℕ) (at : ℕ) → locationCode k s at ≤ 1
 unfolding locationCode boundsCode
 location-low k s at = or-low (mapCode LocationRecord k s at) _ (map-low LocationRecord k s at)
     (or-low (boundsCode k s at) (fieldsCode LocationRecord k s at)
-    (asked-low 7 (each k (λ j. stands (mapOf LocationRecord s at) (first .bound + j))) (omega arith)) (fields-low LocationRecord k s at))
+    (asked-low 7 (each k (λ j. stands (mapOf LocationRecord s at) (firstEdition .bound + j))) (omega arith)) (fields-low LocationRecord k s at))
 
 edge-low : (k l : ℕ) (s : List ℕ) (at : ℕ) → edgeCode k l s at ≤ 11
 unfolding edgeCode endsCode
@@ -61,6 +61,6 @@ records-low k l e s = or-low (firstOf l (λ i. locationCode k s (locationAt s i)
 
 pub check-low : (s : List ℕ) → checkOf s ≤ 11
 unfolding checkOf
-check-low s = ask-low 2 (within (length s) 4 580) _ (omega arith) (ask-low 3 (eqb (byteAt s 0) 1) _ (omega arith)
-    (ask-low 4 (within (locationsIn s) 1 12 && (within (clocksIn s) 1 (first .clocks) && within (edgesIn s) 0 32))
+check-low s = ask-low 2 (isWithin (length s) 4 580) _ (omega arith) (ask-low 3 (eqb (byteAt s 0) 1) _ (omega arith)
+    (ask-low 4 (isWithin (locationsIn s) 1 12 && (isWithin (clocksIn s) 1 (firstEdition .clocks) && isWithin (edgesIn s) 0 32))
     (recordsCode (clocksIn s) (locationsIn s) (edgesIn s) s) (omega arith) (records-low (clocksIn s) (locationsIn s) (edgesIn s) s)))

@@ -18,9 +18,9 @@ use Rattle.nodes.proofs.CheckedLaws.{sound, room}
 use Rattle.walks.specs.Cycles.{Acyclic, Idle}
 use Rattle.contract.specs.Questions.{TooMany, IdleCycle, too-many, no-cycle, idle-cycle, all-yes}
 use Rattle.contract.specs.Accepted.{Accepted}
-use Rattle.contract.specs.Plan.{refused, Buffers, zeros, LongEnough, SameLengths, stepOn, startOf, Judged, too-short, faulty, explored, Planned}
+use Rattle.contract.specs.Plan.{refusedPlan, Buffers, zeros, LongEnough, SameLengths, stepOn, startOf, Judged, too-short, faulty, explored, Planned}
 use Rattle.contract.specs.Explored.{Found, Explored, Overfull}
-use Rattle.contract.proofs.Hand.{InHand}
+use Rattle.contract.proofs.Checklist.{InHand}
 use Rattle.contract.proofs.Checks.{check-low}
 use Rattle.contract.proofs.Counts as Counts
 use Rattle.contract.proofs.Arcs as Arcs
@@ -39,7 +39,7 @@ zero-lengths b = record {
 }
 
 -- a refusal from 1 to 11: nothing is written
-left-alone : (bytes : List ℕ) (b : Buffers) (r : ℕ) → 0 < r → r ≤ 11 → Judged bytes b r → Planned bytes b b (refused r)
+left-alone : (bytes : List ℕ) (b : Buffers) (r : ℕ) → 0 < r → r ≤ 11 → Judged bytes b r → Planned bytes b b (refusedPlan r)
 left-alone bytes b r some low j = record {
   judged = j;
   numbers = λ h. refl;
@@ -51,7 +51,7 @@ left-alone bytes b r some low j = record {
 }
 
 -- a refusal from 12 to 14: every entry is 0
-set-to-zero : (bytes : List ℕ) (b : Buffers) (r : ℕ) → 12 ≤ r → Judged bytes b r → Planned bytes b (zeros b) (refused r)
+set-to-zero : (bytes : List ℕ) (b : Buffers) (r : ℕ) → 12 ≤ r → Judged bytes b r → Planned bytes b (zeros b) (refusedPlan r)
 set-to-zero bytes b r high j = record {
   judged = j;
   numbers = λ h. refl;
@@ -64,17 +64,17 @@ set-to-zero bytes b r high j = record {
 
 module _ (bytes : List ℕ) (b : Buffers) where
   -- question 1
-  pub short-buffer : ¬ LongEnough b → Planned bytes b b (refused 1)
+  pub short-buffer : ¬ LongEnough b → Planned bytes b b (refusedPlan 1)
   short-buffer h = left-alone bytes b 1 (omega arith) (omega arith) (too-short refl h)
 
   module _ (long : LongEnough b) where
     -- questions 2 to 11
-    pub faulty-sheet : checkOf bytes ≢ 0 → Planned bytes b b (refused (checkOf bytes))
+    pub faulty-sheet : checkOf bytes ≢ 0 → Planned bytes b b (refusedPlan (checkOf bytes))
     faulty-sheet h = left-alone bytes b (checkOf bytes) (omega arith) (check-low bytes) (faulty refl long h)
 
     module _ (checked : checkOf bytes ≡ 0) where
       -- question 12: exploring found more than there is room for
-      pub too-many-nodes : (node : List ℕ) → Overfull (stepOn bytes) (startOf bytes) node → Planned bytes b (zeros b) (refused 12)
+      pub too-many-nodes : (node : List ℕ) → Overfull (stepOn bytes) (startOf bytes) node → Planned bytes b (zeros b) (refusedPlan 12)
       too-many-nodes node o = set-to-zero bytes b 12 (omega arith)
           (explored long checked (too-many refl (Counts.too-many (stepOn bytes) (startOf bytes) node o)))
 
@@ -83,12 +83,12 @@ module _ (bytes : List ℕ) (b : Buffers) where
         few = Counts.few-listed (stepOn bytes) (startOf bytes) (g .node) (g .n) (x .few) (Arcs.listed x)
 
         -- question 13
-        pub no-cycle-reachable : Acyclic (g .from) (g .to) (g .m) → Planned bytes b (zeros b) (refused 13)
+        pub no-cycle-reachable : Acyclic (g .from) (g .to) (g .m) → Planned bytes b (zeros b) (refusedPlan 13)
         no-cycle-reachable none = set-to-zero bytes b 13 (omega arith)
             (explored long checked (no-cycle refl few (Searches.no-cycle x none)))
 
         -- question 14
-        pub cycle-earns-nothing : Idle (g .from) (g .to) (g .m) (g .reward) → Planned bytes b (zeros b) (refused 14)
+        pub cycle-earns-nothing : Idle (g .from) (g .to) (g .m) (g .reward) → Planned bytes b (zeros b) (refusedPlan 14)
         cycle-earns-nothing o = set-to-zero bytes b 14 (omega arith)
             (explored long checked (idle-cycle refl few (Searches.some-cycle x (o .arcs) (o .cycle)) (Searches.idle-cycle x o)))
 

@@ -29,8 +29,8 @@ at-map f (x ∷ l) zero h = refl
 at-map f (x ∷ l) (suc i) h = at-map f l i (le-of-suc-le-suc h)
 
 -- the walk along the first i arcs leads to where arc i begins
-front-walk : (F T : List ℕ) (m a : ℕ) (l : List ℕ) (b i : ℕ) → Graph.Walk F T m a l b → i < length l
-    → Graph.Walk F T m a (take i l) (at F (at l i))
+front-walk : (F T : List ℕ) (m a : ℕ) (l : List ℕ) (b i : ℕ) → Graph.ArcWalk F T m a l b → i < length l
+    → Graph.ArcWalk F T m a (take i l) (at F (at l i))
 front-walk F T m a [] b i w h = absurd (omega arith)
 front-walk F T m a (e ∷ l) b zero w h = sym (w .1)
 front-walk F T m a (e ∷ l) b (suc i) w h = (w .0, w .1, front-walk F T m (at T e) l b i (w .2) (le-of-suc-le-suc h))
@@ -46,7 +46,7 @@ module _ {step : ℕ → ℕ → Option (Priced ℕ)} {start : ℕ} {g : Found} 
   all : length (stem ++ cycle) ≡ size
   all = length-append stem cycle
 
-  whole : Graph.Walk (g .from) (g .to) (g .m) 0 arcs (o .hub)
+  whole : Graph.ArcWalk (g .from) (g .to) (g .m) 0 arcs (o .hub)
   whole = GraphLassos.lasso-walk (g .from) (g .to) (g .m) stem cycle o
 
   source-below : (i : ℕ) → i < size → at (g .from) (at arcs i) < g .n

@@ -1,4 +1,4 @@
-pub mod Hand
+pub mod Checklist
 pub mod Indices
 pub mod Arcs
 pub mod Counts

@@ -18,7 +18,7 @@ use Rattle.walks.specs.Cycles.{SimpleCycle, Acyclic, EachEarns, Idle}
 use Rattle.walks.proofs.Weights.{weight-sum}
 use Rattle.contract.specs.Questions.{SomeCycle, IdleCycle}
 use Rattle.contract.specs.Explored.{Found, Explored}
-use Rattle.contract.proofs.Hand.{weightAt}
+use Rattle.contract.proofs.Checklist.{weightAt}
 use Rattle.contract.proofs.Arcs.{costOf, rewardOf, codesOf, Route, start-route, start-walk, cycle-steps, cycle-arcs}
 
 -- minus p times, and p times taken away
@@ -72,5 +72,5 @@ module _ {step : ℕ → ℕ → Option (Priced ℕ)} {start : ℕ} {g : Found} 
     attained = sym (weighed p q g (o .path)) ∙ o .weighs;
     least = λ l c r w. (let k : Route g 0 l (at (g .node) v) c r = start-route x l (at (g .node) v) c r w in
         subst (λ (y : ℤ). z ≤ℤ y) (weighed p q g (k .arcs) ∙ ap₂ (weight p q) (k .cost) (k .reward))
-        (o .least (k .arcs) (subst (Graph.Walk (g .from) (g .to) (g .m) 0 (k .arcs)) (x .distinct (k .end) v (k .below) h (k .is)) (k .walk))));
+        (o .least (k .arcs) (subst (Graph.ArcWalk (g .from) (g .to) (g .m) 0 (k .arcs)) (x .distinct (k .end) v (k .below) h (k .is)) (k .walk))));
   }

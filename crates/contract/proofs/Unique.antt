@@ -15,7 +15,7 @@ use Rattle.automaton.proofs.Potentials.{least-unique}
 use Rattle.automaton.proofs.Ratios.{ratio-unique}
 use Rattle.walks.specs.Walk.{at, atℤ}
 use Rattle.contract.specs.Accepted.{Accepted}
-use Rattle.contract.specs.Plan.{Answer, refused, Buffers, SameLengths, Planned}
+use Rattle.contract.specs.Plan.{Answer, refusedPlan, Buffers, SameLengths, Planned}
 use Rattle.contract.specs.Answers.{Agree}
 use Rattle.contract.proofs.JustWhen.{refusal-unique}
 use Rattle.contract.proofs.Rising.{same-count, same-entry}
@@ -47,7 +47,7 @@ module _ {bytes : List ℕ} {before before' after after' : Buffers} {a a' : Answ
 
   pub unique : Agree after after' a a'
   unique = elim (decLt 0 (a .refusal)) [
-    | yes l ↦ (let e : a ≡ a' = h .numbers l ∙ ap refused same-refusal ∙ sym (k .numbers (omega (arith, same-refusal))) in record {
+    | yes l ↦ (let e : a ≡ a' = h .numbers l ∙ ap refusedPlan same-refusal ∙ sym (k .numbers (omega (arith, same-refusal))) in record {
       refusal = same-refusal;
       p = ap (λ (a : Answer). a .p) e;
       q = ap (λ (a : Answer). a .q) e;

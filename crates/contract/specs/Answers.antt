@@ -6,7 +6,7 @@ use lib.IntN.{ℤ}
 use Rattle.automaton.specs.Ratios.{LeastRatio}
 use Rattle.walks.specs.Walk.{at, atℤ}
 use Rattle.contract.specs.Accepted.{NodeList}
-use Rattle.contract.specs.Plan.{Answer, refused, Buffers, LongEnough, stepOn, startOf, Judged}
+use Rattle.contract.specs.Plan.{Answer, refusedPlan, Buffers, LongEnough, stepOn, startOf, Judged}
 
 -- the ratio and the number of reachable nodes, or the refusal
 pub data Says : Type 0 where
@@ -31,7 +31,7 @@ Holds bytes (refuses refusal) = RefusedAs bytes refusal
 -- an answer of `plan` that says so
 abbrev pub Given : Says → Answer → Type 0
 Given (accepts p q n) a = (a .refusal ≡ 0) × (a .p ≡ p) × (a .q ≡ q) × (a .n ≡ n)
-Given (refuses refusal) a = a ≡ refused refusal
+Given (refuses refusal) a = a ≡ refusedPlan refusal
 
 -- two answers with the buffers that they leave, whatever lassos these hold
 pub record Agree (after after' : Buffers) (a a' : Answer) : Type 0 where

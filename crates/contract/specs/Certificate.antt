@@ -1,4 +1,5 @@
--- Certificates of what a plan answers, and the test of one: the steps from the listed nodes are tried, and nothing is searched for.
+-- A proof device, and no part of a contract: nothing here has to be believed. Certificates of what a plan answers, and the test of one, which tries
+-- the steps from the listed nodes and searches for nothing. That a certificate which passes shows what it is said to show is proved (Certificates.antt).
 use mathlib.Core.Bool.{Bool, true, false, cond, _&&_, _||_, not}
 use mathlib.Core.List.{List, [], _∷_}
 use mathlib.Core.Option.{Option, none, some}

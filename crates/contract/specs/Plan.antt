@@ -24,8 +24,8 @@ pub record Answer : Type 0 where
   pub m : ℕ
 
 -- "All numbers besides the refusal are 0."
-abbrev pub refused : ℕ → Answer
-refused r = record { refusal = r; p = pos 0; q = 0; n = 0; s = 0; m = 0 }
+abbrev pub refusedPlan : ℕ → Answer
+refusedPlan r = record { refusal = r; p = pos 0; q = 0; n = 0; s = 0; m = 0 }
 
 -- the three buffers
 pub record Buffers : Type 0 where
@@ -68,7 +68,7 @@ pub data Judged (bytes : List ℕ) (b : Buffers) (refusal : ℕ) : Type 0 where
 -- the contract, with the buffers before and after
 pub record Planned (bytes : List ℕ) (before after : Buffers) (a : Answer) : Type 0 where
   pub judged : Judged bytes before (a .refusal)
-  pub numbers : 0 < a .refusal → a ≡ refused (a .refusal)
+  pub numbers : 0 < a .refusal → a ≡ refusedPlan (a .refusal)
   -- "Refusals 1 to 11 do not write to any buffer; 12 to 14 set every entry of the three buffers to 0."
   pub kept : 0 < a .refusal → a .refusal ≤ 11 → after ≡ before
   pub cleared : 12 ≤ a .refusal → after ≡ zeros before

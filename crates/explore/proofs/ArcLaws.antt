@@ -7,7 +7,7 @@ use lib.ListN.{set}
 use Rattle.automaton.specs.Priced.{Priced}
 use Rattle.region.specs.Answers.{answered}
 use Rattle.region.specs.declared.Stepped.{Stepped}
-use Rattle.explore.specs.Buffers.{Buffers}
+use Rattle.explore.specs.Buffers.{GraphBuffers}
 
 -- where a step leads, as it is answered
 abbrev pub led : Stepped → Priced ℕ
@@ -22,7 +22,7 @@ refused none s p q = refl
 refused (some v) s p q = absurd (q (ap (λ (s : Stepped). s .refusal) p))
 
 -- the arc m is written, from node i to node j, for the step with code k
-pub record Pushed (b b' : Buffers) (m i j k : ℕ) (s : Stepped) : Type 0 where
+pub record Pushed (b b' : GraphBuffers) (m i j k : ℕ) (s : Stepped) : Type 0 where
   pub from : b' .from ≡ set (b .from) m i
   pub to : b' .to ≡ set (b .to) m j
   pub code : b' .code ≡ set (b .code) m k

@@ -8,7 +8,7 @@ use Rattle.automaton.specs.Priced.{Priced}
 use Rattle.walks.specs.Walk.{at}
 use Rattle.region.specs.Answers.{answered}
 use Rattle.region.specs.declared.Stepped.{Stepped}
-use Rattle.explore.specs.Buffers.{Buffers, buffers, LongEnough}
+use Rattle.explore.specs.Buffers.{GraphBuffers, graphBuffers, HasRoom}
 use Rattle.explore.specs.Index.{Known, Added, Full, Entered}
 use Rattle.explore.specs.Answer.{Stopped}
 use Rattle.explore.proofs.ArcLaws.{led, allowed, refused, Pushed}
@@ -38,16 +38,16 @@ small N K I P N' K' I' P' n y m j few (Entered.added a) = omega (arith, a .last)
 small N K I P N' K' I' P' n y m j few (Entered.full a) = omega (arith, a .last)
 
 -- ---- turn t: the step with code k at node i is answered by s
-pub record Taken (step : ℕ → ℕ → Option (Priced ℕ)) (start : ℕ) (b₀ b : Buffers) (n m i k t : ℕ) (s : Stepped) : Type 0 where
+pub record Taken (step : ℕ → ℕ → Option (Priced ℕ)) (start : ℕ) (b₀ b : GraphBuffers) (n m i k t : ℕ) (s : Stepped) : Type 0 where
   pub searched : Searched step start (seeded b₀) b n m t
-  pub long : LongEnough b
+  pub long : HasRoom b
   pub node : i < n
   pub code : k < 34
   pub turn : t ≡ 34 * i + k
   pub left : t < 34 * n
   pub told : s ≡ answered (step (at (b .node) i) k)
 
-module _ {step : ℕ → ℕ → Option (Priced ℕ)} {start : ℕ} {b₀ b : Buffers} {n m i k t : ℕ} {s : Stepped} (w : Taken step start b₀ b n m i k t s) where
+module _ {step : ℕ → ℕ → Option (Priced ℕ)} {start : ℕ} {b₀ b : GraphBuffers} {n m i k t : ℕ} {s : Stepped} (w : Taken step start b₀ b n m i k t s) where
   leads : s .refusal ≡ 0 → step (at (b .node) i) k ≡ some (led s)
   leads e = allowed (step (at (b .node) i) k) s (w .told) e
 
@@ -56,12 +56,12 @@ module _ {step : ℕ → ℕ → Option (Priced ℕ)} {start : ℕ} {b₀ b : Bu
 
   module _ (ok : s .refusal ≡ 0) where
     pub stopped : (N K I P : List ℕ) (j : ℕ) → Entered (b .node) (b .sorted) (b .order) (b .tree) N K I P n (s .number) m j → j ≡ 2048
-        → Stopped step start b₀ (buffers N K I P (b .from) (b .to) (b .code) (b .cost) (b .reward))
+        → Stopped step start b₀ (graphBuffers N K I P (b .from) (b .to) (b .code) (b .cost) (b .reward))
     stopped N K I P j e z =
         let a = over (b .node) (b .sorted) (b .order) (b .tree) N K I P n (s .number) m j (w .searched .few-nodes) e z in
         rw (a .nodes, a .sorted, a .order, a .tree) (stop step start b₀ b n m i k t (led s) (w .searched) (w .node) (a .full) (leads ok) (a .fresh))
 
-    module _ (b' : Buffers) (j : ℕ) (e : Entered (b .node) (b .sorted) (b .order) (b .tree) (b' .node) (b' .sorted) (b' .order) (b' .tree) n (s .number) m j)
+    module _ (b' : GraphBuffers) (j : ℕ) (e : Entered (b .node) (b .sorted) (b .order) (b .tree) (b' .node) (b' .sorted) (b' .order) (b' .tree) n (s .number) m j)
         (room : j ≡ 2048 → ⊥) (arc : Pushed b b' m i j k s) where
       pub known-node : (j ≡ n → ⊥) → Searched step start (seeded b₀) b' n (m + 1) (t + 1)
       known-node z = known-turn step start (seeded b₀) b b' n m i k t s (w .searched) (w .long) (w .node) (w .code) (w .turn) (leads ok) j (w .left)

@@ -7,10 +7,10 @@ use borrow.Author.Tests.{leb-true, le-leb}
 use lib.Dec.{leb}
 use lib.ListN.{length, length-set}
 use Rattle.automaton.proofs.Tests.{&&-left, &&-right}
-use Rattle.explore.specs.Buffers.{Buffers, LongEnough, each}
+use Rattle.explore.specs.Buffers.{GraphBuffers, HasRoom, eachAtLeast}
 use Rattle.explore.proofs.SearchLaws.{seeded}
 
-each-true : (least a b c d : ℕ) → each least a b c d ≡ true → (least ≤ a) × ((least ≤ b) × ((least ≤ c) × (least ≤ d)))
+each-true : (least a b c d : ℕ) → eachAtLeast least a b c d ≡ true → (least ≤ a) × ((least ≤ b) × ((least ≤ c) × (least ≤ d)))
 each-true least a b c d e =
     let f = &&-right (leb least a) (leb least b && (leb least c && leb least d)) e in
     let h = &&-right (leb least b) (leb least c && leb least d) f in (
@@ -18,18 +18,18 @@ each-true least a b c d e =
       (leb-true least b (&&-left (leb least b) (leb least c && leb least d) f), (leb-true least c (&&-left (leb least c) (leb least d) h), leb-true least d (&&-right (leb least c) (leb least d) h))),
     )
 
-each-is : (least a b c d : ℕ) → least ≤ a → least ≤ b → least ≤ c → least ≤ d → each least a b c d ≡ true
+each-is : (least a b c d : ℕ) → least ≤ a → least ≤ b → least ≤ c → least ≤ d → eachAtLeast least a b c d ≡ true
 each-is least a b c d p q r s = simp (le-leb least a p, le-leb least b q, le-leb least c r, le-leb least d s)
 
 -- the whole test
-abbrev pub fits : Buffers → Bool
-fits b = each 2048 (length (b .node)) (length (b .sorted)) (length (b .order)) (length (b .tree))
-    && (each 69632 (length (b .from)) (length (b .to)) (length (b .code)) (length (b .cost)) && leb 69632 (length (b .reward)))
+abbrev pub fits : GraphBuffers → Bool
+fits b = eachAtLeast 2048 (length (b .node)) (length (b .sorted)) (length (b .order)) (length (b .tree))
+    && (eachAtLeast 69632 (length (b .from)) (length (b .to)) (length (b .code)) (length (b .cost)) && leb 69632 (length (b .reward)))
 
-pub long-of : (b : Buffers) → fits b ≡ true → LongEnough b
+pub long-of : (b : GraphBuffers) → fits b ≡ true → HasRoom b
 long-of b e =
-    let n = each 2048 (length (b .node)) (length (b .sorted)) (length (b .order)) (length (b .tree)) in
-    let m = each 69632 (length (b .from)) (length (b .to)) (length (b .code)) (length (b .cost)) in
+    let n = eachAtLeast 2048 (length (b .node)) (length (b .sorted)) (length (b .order)) (length (b .tree)) in
+    let m = eachAtLeast 69632 (length (b .from)) (length (b .to)) (length (b .code)) (length (b .cost)) in
     let r = leb 69632 (length (b .reward)) in
     let p = each-true 2048 (length (b .node)) (length (b .sorted)) (length (b .order)) (length (b .tree)) (&&-left n (m && r) e) in
     let f = &&-right n (m && r) e in
@@ -46,7 +46,7 @@ long-of b e =
       reward = leb-true 69632 (length (b .reward)) (&&-right m r f);
     }
 
-pub not-long : (b : Buffers) → fits b ≡ false → LongEnough b → ⊥
+pub not-long : (b : GraphBuffers) → fits b ≡ false → HasRoom b → ⊥
 not-long b e g =
     let z : fits b ≡ true = simp (
       each-is 2048 (length (b .node)) (length (b .sorted)) (length (b .order)) (length (b .tree)) (g .node) (g .sorted) (g .order) (g .tree),
@@ -56,7 +56,7 @@ not-long b e g =
     let y : _≡_ {A = ℕ} 0 1 = cc in omega arith
 
 -- ---- the lengths stay
-pub record Same (before after : Buffers) : Type 0 where
+pub record Same (before after : GraphBuffers) : Type 0 where
   pub nodes : length (after .node) ≡ length (before .node)
   pub sorted : length (after .sorted) ≡ length (before .sorted)
   pub order : length (after .order) ≡ length (before .order)
@@ -67,7 +67,7 @@ pub record Same (before after : Buffers) : Type 0 where
   pub cost : length (after .cost) ≡ length (before .cost)
   pub reward : length (after .reward) ≡ length (before .reward)
 
-pub long-kept : (before after : Buffers) → Same (seeded before) after → LongEnough before → LongEnough after
+pub long-kept : (before after : GraphBuffers) → Same (seeded before) after → HasRoom before → HasRoom after
 long-kept before after s r = record {
   node = omega (arith, s .nodes, r .node, length-set (before .node) 0 0);
   sorted = omega (arith, s .sorted, r .sorted, length-set (before .sorted) 0 0);

@@ -13,7 +13,7 @@ use Rattle.automaton.specs.Walks.{Reachable}
 use Rattle.automaton.proofs.Walks.{reach-start, reach-step}
 use Rattle.walks.specs.Walk.{at}
 use Rattle.contract.specs.Explored.{ArcOf, Explored}
-use Rattle.explore.specs.Buffers.{Buffers, buffers, found, LongEnough}
+use Rattle.explore.specs.Buffers.{GraphBuffers, graphBuffers, found, HasRoom}
 use Rattle.explore.specs.Index.{Index}
 use Rattle.explore.specs.Answer.{SearchTree, BySource, Rest, Filled, IsStep, Stopped}
 use Rattle.explore.proofs.IndexLaws.{one}
@@ -40,11 +40,11 @@ pub set-rest : {A : Type 0} (l l' : List A) (n : ℕ) (x : A) → l' ≡ set l n
 set-rest {A} l l' n x w = ap (λ (l : List A). drop (n + 1) l) w ∙ drop-set-lt (n + 1) l n x (omega arith)
 
 -- the start is written, node 0 with the number 0
-abbrev pub seeded : Buffers → Buffers
-seeded b = buffers (set (b .node) 0 0) (set (b .sorted) 0 0) (set (b .order) 0 0) (b .tree) (b .from) (b .to) (b .code) (b .cost) (b .reward)
+abbrev pub seeded : GraphBuffers → GraphBuffers
+seeded b = graphBuffers (set (b .node) 0 0) (set (b .sorted) 0 0) (set (b .order) 0 0) (b .tree) (b .from) (b .to) (b .code) (b .cost) (b .reward)
 
 -- what stands beyond the nodes found is what stood there before that
-rest-seeded : (b b' : Buffers) (n m : ℕ) → 0 < n → Rest (seeded b) b' n m → Rest b b' n m
+rest-seeded : (b b' : GraphBuffers) (n m : ℕ) → 0 < n → Rest (seeded b) b' n m → Rest b b' n m
 rest-seeded b b' n m h r = record {
   node = r .node ∙ drop-set-lt n (b .node) 0 0 h;
   sorted = r .sorted ∙ drop-set-lt n (b .sorted) 0 0 h;
@@ -60,7 +60,7 @@ rest-seeded b b' n m h r = record {
 
 module _ (step : ℕ → ℕ → Option (Priced ℕ)) (start : ℕ) where
   -- n nodes and m arcs are found, and t turns taken
-  pub record Searched (before after : Buffers) (n m t : ℕ) : Type 0 where
+  pub record Searched (before after : GraphBuffers) (n m t : ℕ) : Type 0 where
     pub some-node : 0 < n
     pub few-nodes : n ≤ 2048
     pub few-arcs : m ≤ t
@@ -77,7 +77,7 @@ module _ (step : ℕ → ℕ → Option (Priced ℕ)) (start : ℕ) where
     pub index : Index (after .node) (after .sorted) (after .order) n
     pub rest : Rest before after n m
 
-  pub begin : (b : Buffers) → LongEnough b → start ≡ 0 → Searched (seeded b) (seeded b) 1 0 0
+  pub begin : (b : GraphBuffers) → HasRoom b → start ≡ 0 → Searched (seeded b) (seeded b) 1 0 0
   begin b r z =
       let p : at (set (b .node) 0 0) 0 ≡ start = getD-set-same (b .node) 0 0 0 (omega (arith, r .node)) ∙ sym z in record {
         some-node = omega arith;
@@ -124,7 +124,7 @@ module _ (step : ℕ → ℕ → Option (Priced ℕ)) (start : ℕ) where
   some-none o v p q = absurd (let z : _≡_ {A = ℕ} 0 1 = cc in omega arith)
 
   -- no step
-  pub skip : (b₀ b : Buffers) (n m i k t : ℕ) → Searched b₀ b n m t → k < 34 → t ≡ 34 * i + k → t < 34 * n → step (at (b .node) i) k ≡ none
+  pub skip : (b₀ b : GraphBuffers) (n m i k t : ℕ) → Searched b₀ b n m t → k < 34 → t ≡ 34 * i + k → t < 34 * n → step (at (b .node) i) k ≡ none
       → Searched b₀ b n m (t + 1)
   skip b₀ b n m i k t g hk e ht p = record {
     some-node = g .some-node;
@@ -146,7 +146,7 @@ module _ (step : ℕ → ℕ → Option (Priced ℕ)) (start : ℕ) where
   }
 
   -- every turn is taken
-  pub done : (b₀ b : Buffers) (n m t : ℕ) → ((x code : ℕ) (v : Priced ℕ) → step x code ≡ some v → code < 34) → Searched b₀ b n m t → 34 * n ≤ t
+  pub done : (b₀ b : GraphBuffers) (n m t : ℕ) → ((x code : ℕ) (v : Priced ℕ) → step x code ≡ some v → code < 34) → Searched b₀ b n m t → 34 * n ≤ t
       → Explored step start (found b n m)
   done b₀ b n m t few g h = record {
     some-node = g .some-node;
@@ -160,7 +160,7 @@ module _ (step : ℕ → ℕ → Option (Priced ℕ)) (start : ℕ) where
     complete = λ a code v l q. (let c = few (at (b .node) a) code v q in g .complete a code v c (omega arith) q);
   }
 
-  pub filled : (b₀ b : Buffers) (n m t : ℕ) → Searched (seeded b₀) b n m t → Filled b₀ b n m
+  pub filled : (b₀ b : GraphBuffers) (n m t : ℕ) → Searched (seeded b₀) b n m t → Filled b₀ b n m
   filled b₀ b n m t g = record {
     index = g .index;
     tree = g .tree;
@@ -171,7 +171,7 @@ module _ (step : ℕ → ℕ → Option (Priced ℕ)) (start : ℕ) where
   }
 
   -- a step to one node more than there is room for
-  pub stop : (b₀ b : Buffers) (n m i k t : ℕ) (v : Priced ℕ) → Searched (seeded b₀) b n m t → i < n → n ≡ 2048 → step (at (b .node) i) k ≡ some v
+  pub stop : (b₀ b : GraphBuffers) (n m i k t : ℕ) (v : Priced ℕ) → Searched (seeded b₀) b n m t → i < n → n ≡ 2048 → step (at (b .node) i) k ≡ some v
       → ((a : ℕ) → a < n → at (b .node) a ≡ v .to → ⊥) → Stopped step start b₀ b
   stop b₀ b n m i k t v g hi z leads fresh = record {
     overfull = record {

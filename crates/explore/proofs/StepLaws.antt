@@ -18,7 +18,7 @@ use Rattle.automaton.specs.Nodes.{startNode}
 use Rattle.automaton.specs.Steps.{step, edgeStep}
 use Rattle.nodes.specs.Numbers.{firstLayout, bitsOf, nodeOf, number, clocksFrom, startNumber, stepBy}
 use Rattle.nodes.specs.Decoded.{decodedMeaning, edgeIn, alone}
-use Rattle.region.specs.Answers.{answered, refused}
+use Rattle.region.specs.Answers.{answered, refusedStep}
 use Rattle.region.specs.declared.Stepped.{Stepped}
 use Rattle.step.proofs.SheetLaws.{no-edge, edge-there, delay-there}
 use Rattle.explore.specs.Records.{Records}
@@ -59,7 +59,7 @@ module _ (s : Sheet) (x k clocks count : ℕ) (edge : Edge) (location : Location
   abbrev Is : Stepped → Type 0
   Is v = v ≡ answered (stepBy firstLayout (decodedMeaning s) x k)
 
-  pub no-edge-there : k < 32 → count ≤ k → Is (refused 16)
+  pub no-edge-there : k < 32 → count ≤ k → Is (refusedStep 16)
   no-edge-there h l = no-edge s x k (omega arith) (omega (arith, r .edges-are))
 
   pub edge-by-record : k < 32 → k < count → Is (answered (stepBy firstLayout (alone clocks edge location) x 0))

@@ -13,14 +13,14 @@ use Rattle.automaton.proofs.Walks.{reach-step}
 use Rattle.walks.specs.Walk.{at}
 use Rattle.contract.specs.Explored.{ArcOf}
 use Rattle.region.specs.declared.Stepped.{Stepped}
-use Rattle.explore.specs.Buffers.{Buffers, found, LongEnough}
+use Rattle.explore.specs.Buffers.{GraphBuffers, found, HasRoom}
 use Rattle.explore.specs.Index.{Index, Known, Added}
 use Rattle.explore.specs.Answer.{SearchTree, Rest, IsStep}
 use Rattle.explore.proofs.ArcLaws.{led, Pushed}
 use Rattle.explore.proofs.SearchLaws.{Searched, up-to, kept, there, beyond, set-rest, next-turn}
 
-module _ (step : ℕ → ℕ → Option (Priced ℕ)) (start : ℕ) (b₀ b b' : Buffers) (n m i k t : ℕ) (s : Stepped) (g : Searched step start b₀ b n m t)
-    (long : LongEnough b) (hi : i < n) (hk : k < 34) (turn : t ≡ 34 * i + k) (leads : step (at (b .node) i) k ≡ some (led s)) where
+module _ (step : ℕ → ℕ → Option (Priced ℕ)) (start : ℕ) (b₀ b b' : GraphBuffers) (n m i k t : ℕ) (s : Stepped) (g : Searched step start b₀ b n m t)
+    (long : HasRoom b) (hi : i < n) (hk : k < 34) (turn : t ≡ 34 * i + k) (leads : step (at (b .node) i) k ≡ some (led s)) where
   under : m < 69632
   under = omega (arith, g .few-arcs, g .few-nodes)
 

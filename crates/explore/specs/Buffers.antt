@@ -7,7 +7,7 @@ use lib.IntN.{ℤ}
 use lib.ListN.{length}
 use Rattle.contract.specs.Explored.{Found}
 
-pub record Buffers : Type 0 where
+pub record GraphBuffers : Type 0 where
   -- the nodes' numbers, in order of discovery
   pub node : List ℕ
   -- the same numbers, rising, and of each its place in order of discovery
@@ -22,15 +22,15 @@ pub record Buffers : Type 0 where
   pub cost : List ℤ
   pub reward : List ℕ
 
-abbrev pub buffers : List ℕ → List ℕ → List ℕ → List ℕ → List ℕ → List ℕ → List ℕ → List ℤ → List ℕ → Buffers
-buffers N K I P F T C Z R = record { node = N; sorted = K; order = I; tree = P; from = F; to = T; code = C; cost = Z; reward = R }
+abbrev pub graphBuffers : List ℕ → List ℕ → List ℕ → List ℕ → List ℕ → List ℕ → List ℕ → List ℤ → List ℕ → GraphBuffers
+graphBuffers N K I P F T C Z R = record { node = N; sorted = K; order = I; tree = P; from = F; to = T; code = C; cost = Z; reward = R }
 
 -- n nodes and m arcs
-abbrev pub found : Buffers → ℕ → ℕ → Found
+abbrev pub found : GraphBuffers → ℕ → ℕ → Found
 found b n m = record { node = b .node; from = b .from; to = b .to; code = b .code; cost = b .cost; reward = b .reward; n = n; m = m }
 
 -- room for 2,048 nodes, and for an arc for each node and code
-pub record LongEnough (b : Buffers) : Type 0 where
+pub record HasRoom (b : GraphBuffers) : Type 0 where
   pub node : 2048 ≤ length (b .node)
   pub sorted : 2048 ≤ length (b .sorted)
   pub order : 2048 ≤ length (b .order)
@@ -42,5 +42,5 @@ pub record LongEnough (b : Buffers) : Type 0 where
   pub reward : 69632 ≤ length (b .reward)
 
 -- the same of lengths, as tests
-abbrev pub each : ℕ → ℕ → ℕ → ℕ → ℕ → Bool
-each least a b c d = leb least a && (leb least b && (leb least c && leb least d))
+abbrev pub eachAtLeast : ℕ → ℕ → ℕ → ℕ → ℕ → Bool
+eachAtLeast least a b c d = leb least a && (leb least b && (leb least c && leb least d))

@@ -4,8 +4,8 @@ ghost use mathlib.Core.Bool.{_&&_};
 ghost use lib.Dec.{leb};
 ghost use Rattle.nodes.specs.Numbers.{firstLayout, stepBy, startNumber};
 ghost use Rattle.nodes.specs.Decoded.{decodedMeaning};
-ghost use Rattle.explore.specs.Buffers.{buffers, each};
-ghost use Rattle.explore.specs.Answer.{Answered};
+ghost use Rattle.explore.specs.Buffers.{graphBuffers, eachAtLeast};
+ghost use Rattle.explore.specs.Answer.{ExploreAnswered};
 use sheet::Sheet;
 
 mod arcs;
@@ -22,7 +22,7 @@ pub enum Outcome {
 }
 
 fn each_at_least(least: usize, a: usize, b: usize, c: usize, d: usize) -> bool
-    ensures { λ r. ⌜ r ≡ (each least a b c d) ⌝ }
+    ensures { λ r. ⌜ r ≡ (eachAtLeast least a b c d) ⌝ }
 {
     if a < least {
         return false;
@@ -48,7 +48,7 @@ fn long_enough(
     cost: usize,
     reward: usize,
 ) -> bool
-    ensures { λ r. ⌜ r ≡ (each 2048 nodes sorted order tree && (each 69632 from to code cost && leb 69632 reward)) ⌝ }
+    ensures { λ r. ⌜ r ≡ (eachAtLeast 2048 nodes sorted order tree && (eachAtLeast 69632 from to code cost && leb 69632 reward)) ⌝ }
 {
     if !each_at_least(2048, nodes, sorted, order, tree) {
         return false;
@@ -72,10 +72,10 @@ pub fn explore(
     cost: &mut [i16],
     reward: &mut [u16],
 ) -> Outcome
-    ensures { λ r. ⌜ Answered (stepBy firstLayout (decodedMeaning sheet)) (startNumber firstLayout (decodedMeaning sheet))
-        (buffers (now (nodes .entry)) (now (sorted .entry)) (now (order .entry)) (now (tree .entry))
+    ensures { λ r. ⌜ ExploreAnswered (stepBy firstLayout (decodedMeaning sheet)) (startNumber firstLayout (decodedMeaning sheet))
+        (graphBuffers (now (nodes .entry)) (now (sorted .entry)) (now (order .entry)) (now (tree .entry))
         (now (from .entry)) (now (to .entry)) (now (code .entry)) (now (cost .entry)) (now (reward .entry)))
-        (buffers (now (nodes .exit)) (now (sorted .exit)) (now (order .exit)) (now (tree .exit))
+        (graphBuffers (now (nodes .exit)) (now (sorted .exit)) (now (order .exit)) (now (tree .exit))
         (now (from .exit)) (now (to .exit)) (now (code .exit)) (now (cost .exit)) (now (reward .exit))) r ⌝ }
 {
     if !long_enough(

@@ -1,8 +1,8 @@
 // The search: turn by turn, each code at each node found.
 ghost use Rattle.nodes.specs.Numbers.{firstLayout, stepBy, startNumber};
 ghost use Rattle.nodes.specs.Decoded.{decodedMeaning};
-ghost use Rattle.explore.specs.Buffers.{buffers, LongEnough};
-ghost use Rattle.explore.specs.Answer.{Answered};
+ghost use Rattle.explore.specs.Buffers.{graphBuffers, HasRoom};
+ghost use Rattle.explore.specs.Answer.{ExploreAnswered};
 use crate::Outcome;
 use sheet::Sheet;
 
@@ -19,11 +19,11 @@ pub(crate) fn search(
     cost: &mut [i16],
     reward: &mut [u16],
 ) -> Outcome
-    requires { ⌜ LongEnough (buffers (now nodes) (now sorted) (now order) (now tree) (now from) (now to) (now code) (now cost) (now reward)) ⌝ }
-    ensures { λ r. ⌜ Answered (stepBy firstLayout (decodedMeaning sheet)) (startNumber firstLayout (decodedMeaning sheet))
-        (buffers (now (nodes .entry)) (now (sorted .entry)) (now (order .entry)) (now (tree .entry))
+    requires { ⌜ HasRoom (graphBuffers (now nodes) (now sorted) (now order) (now tree) (now from) (now to) (now code) (now cost) (now reward)) ⌝ }
+    ensures { λ r. ⌜ ExploreAnswered (stepBy firstLayout (decodedMeaning sheet)) (startNumber firstLayout (decodedMeaning sheet))
+        (graphBuffers (now (nodes .entry)) (now (sorted .entry)) (now (order .entry)) (now (tree .entry))
         (now (from .entry)) (now (to .entry)) (now (code .entry)) (now (cost .entry)) (now (reward .entry)))
-        (buffers (now (nodes .exit)) (now (sorted .exit)) (now (order .exit)) (now (tree .exit))
+        (graphBuffers (now (nodes .exit)) (now (sorted .exit)) (now (order .exit)) (now (tree .exit))
         (now (from .exit)) (now (to .exit)) (now (code .exit)) (now (cost .exit)) (now (reward .exit))) r ⌝ }
 {
     let written = sheet.edge;

@@ -4,7 +4,7 @@
 ghost use mathlib.Core.Path.{_≡_};
 ghost use lib.IntN.{pos};
 ghost use Rattle.sheet.specs.Questions.{checkOf};
-ghost use Rattle.planner.specs.Lent.{lent};
+ghost use Rattle.planner.specs.ContractTerms.{lentBuffers};
 ghost use Rattle.exports.specs.Told.{stepRefusal, stepOut, PlanTold};
 
 fn word(x: u32) -> i64
@@ -58,8 +58,8 @@ pub extern "C" fn planner_plan(
     steps: &mut [u16],
     out: &mut [i64],
 ) -> u8
-    ensures { λ r. ⌜ PlanTold (now (sheet .entry)) (lent (now (nodes .entry)) (now (potentials .entry)) (now (steps .entry)))
-        (lent (now (nodes .exit)) (now (potentials .exit)) (now (steps .exit))) (now (out .entry)) (now (out .exit)) r ⌝ }
+    ensures { λ r. ⌜ PlanTold (now (sheet .entry)) (lentBuffers (now (nodes .entry)) (now (potentials .entry)) (now (steps .entry)))
+        (lentBuffers (now (nodes .exit)) (now (potentials .exit)) (now (steps .exit))) (now (out .entry)) (now (out .exit)) r ⌝ }
 {
     if out.len() < 5 {
         return 255;

@@ -7,8 +7,8 @@ use lib.ListN.{length, take, drop, List·getD-append}
 use lib.Seq.{slice, length-slice, length-take-le, getD-take, take-at, drop-at}
 use lib.IntN.{ℤ, pos}
 use Rattle.walks.specs.Walk.{atℤ}
-use Rattle.walks.specs.Weight.{weightOf, Potential}
-use Rattle.walks.specs.Form.{Graph, InRange}
+use Rattle.walks.specs.Weight.{weightOf, PotentialOrMark}
+use Rattle.walks.specs.Form.{Graph, CoefficientsInRange}
 use Rattle.walks.proofs.Codes.{codes}
 use Rattle.walks.proofs.Rounds.{start, Least}
 use Rattle.walks.proofs.Climbs.{Negative}
@@ -16,7 +16,7 @@ use Rattle.walks.proofs.Coded.{coded}
 use Rattle.walks.proofs.Answers.{negative, short, potential, none-below}
 use Rattle.graph.specs.Answer.{CycleFound, PotentialsFound}
 
-module _ {F T : List ℕ} {cost : List ℤ} {reward : List ℕ} {a b c : ℤ} {n : ℕ} (g : Graph F T cost reward n) (k : InRange a b c) where
+module _ {F T : List ℕ} {cost : List ℤ} {reward : List ℕ} {a b c : ℤ} {n : ℕ} (g : Graph F T cost reward n) (k : CoefficientsInRange a b c) where
   abbrev weight : ℕ → ℤ
   weight = weightOf a b c cost reward
 
@@ -27,7 +27,7 @@ module _ {F T : List ℕ} {cost : List ℤ} {reward : List ℕ} {a b c : ℤ} {n
   pub potentials-found : {p p' : List ℤ} {q q' : List ℕ} (d : List ℤ) → length d ≡ 2048 → Least F T W (length F) (codes start d) 2048
       → p' ≡ take n d ++ drop n p → q' ≡ q → PotentialsFound F T weight n p p' q q'
   potentials-found {p} {p'} d l o e f = record {
-    potentials = λ v h. subst (Potential F T (length F) weight v) (sym (entry v h)) (potential g k d l o v (omega (arith, g .nodes)));
+    potentials = λ v h. subst (PotentialOrMark F T (length F) weight v) (sym (entry v h)) (potential g k d l o v (omega (arith, g .nodes)));
     none = none-below g k d l o;
     rest = ap (drop n) e ∙ drop-at (take n d) (drop n p) n long;
     kept = f;

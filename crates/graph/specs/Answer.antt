@@ -5,15 +5,15 @@ use Prim.Native.Nat.{ℕ, _≤_, _<_}
 use lib.ListN.{length, take, drop}
 use lib.IntN.{ℤ}
 use Rattle.walks.specs.Walk.{atℤ}
-use Rattle.walks.specs.Weight.{weightOf, NegativeCycle, NoneNegative, Potential}
-use Rattle.walks.specs.Form.{Graph, InRange}
+use Rattle.walks.specs.Weight.{weightOf, NegativeCycle, NoneNegative, PotentialOrMark}
+use Rattle.walks.specs.Form.{Graph, CoefficientsInRange}
 use Rattle.graph.specs.declared.Answer.{Answer}
 use Rattle.graph.specs.declared.Answer.the-variants.{Malformed, Cycle, Potentials}
 
 -- the arguments: a graph of n nodes, coefficients in range, and n entries or more in each buffer
-pub record WellFormed (F T : List ℕ) (cost : List ℤ) (reward : List ℕ) (a b c : ℤ) (n potentials arcs : ℕ) : Type 0 where
+pub record SearchArguments (F T : List ℕ) (cost : List ℤ) (reward : List ℕ) (a b c : ℤ) (n potentials arcs : ℕ) : Type 0 where
   pub graph : Graph F T cost reward n
-  pub in-range : InRange a b c
+  pub in-range : CoefficientsInRange a b c
   pub potential-room : n ≤ potentials
   pub cycle-room : n ≤ arcs
 
@@ -26,18 +26,18 @@ pub record CycleFound (F T : List ℕ) (weight : ℕ → ℤ) (n k : ℕ) (poten
 
 -- the first n entries of potential are the nodes' potentials, no negative cycle is reached, and nothing else is written
 pub record PotentialsFound (F T : List ℕ) (weight : ℕ → ℤ) (n : ℕ) (potential potential' : List ℤ) (cycle cycle' : List ℕ) : Type 0 where
-  pub potentials : (v : ℕ) → v < n → Potential F T (length F) weight v (atℤ potential' v)
+  pub potentials : (v : ℕ) → v < n → PotentialOrMark F T (length F) weight v (atℤ potential' v)
   pub none : NoneNegative F T (length F) weight
   pub rest : drop n potential' ≡ drop n potential
   pub kept : cycle' ≡ cycle
 
 -- malformed arguments, and nothing is written; a cycle of k arcs; or potentials
-abbrev pub Answered : List ℕ → List ℕ → List ℤ → List ℕ → ℤ → ℤ → ℤ → ℕ → List ℤ → List ℤ → List ℕ → List ℕ → Answer → Type 0
-Answered F T cost reward a b c n potential potential' cycle cycle' Malformed =
-    (WellFormed F T cost reward a b c n (length potential) (length cycle) → ⊥) × (potential' ≡ potential) × (cycle' ≡ cycle)
-Answered F T cost reward a b c n potential potential' cycle cycle' (Cycle k) =
-    WellFormed F T cost reward a b c n (length potential) (length cycle)
+abbrev pub SearchAnswered : List ℕ → List ℕ → List ℤ → List ℕ → ℤ → ℤ → ℤ → ℕ → List ℤ → List ℤ → List ℕ → List ℕ → Answer → Type 0
+SearchAnswered F T cost reward a b c n potential potential' cycle cycle' Malformed =
+    (SearchArguments F T cost reward a b c n (length potential) (length cycle) → ⊥) × (potential' ≡ potential) × (cycle' ≡ cycle)
+SearchAnswered F T cost reward a b c n potential potential' cycle cycle' (Cycle k) =
+    SearchArguments F T cost reward a b c n (length potential) (length cycle)
     × CycleFound F T (weightOf a b c cost reward) n k potential potential' cycle cycle'
-Answered F T cost reward a b c n potential potential' cycle cycle' Potentials =
-    WellFormed F T cost reward a b c n (length potential) (length cycle)
+SearchAnswered F T cost reward a b c n potential potential' cycle cycle' Potentials =
+    SearchArguments F T cost reward a b c n (length potential) (length cycle)
     × PotentialsFound F T (weightOf a b c cost reward) n potential potential' cycle cycle'

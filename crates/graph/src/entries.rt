@@ -7,7 +7,7 @@ ghost use mir.Syntax.{w64};
 ghost use mir.Val.{SFits};
 ghost use Rattle.walks.specs.Walk.{at, atℤ};
 ghost use Rattle.walks.specs.Weight.{weightOf};
-ghost use Rattle.walks.specs.Form.{InRange};
+ghost use Rattle.walks.specs.Form.{CoefficientsInRange};
 use crate::Coefficients;
 
 // One signed operation to a function: a caller then has the result as an integer.
@@ -47,7 +47,7 @@ fn gain(s: &[u16], e: usize) -> i64
 }
 
 fn weigh(k: Coefficients, x: i64, y: i64) -> i64
-    requires { ⌜ InRange (k .a) (k .b) (k .c) ⌝ ∗ ⌜ natAbs x ≤ 10000 ⌝ ∗ ⌜ natAbs y ≤ 10000 ⌝ }
+    requires { ⌜ CoefficientsInRange (k .a) (k .b) (k .c) ⌝ ∗ ⌜ natAbs x ≤ 10000 ⌝ ∗ ⌜ natAbs y ≤ 10000 ⌝ }
     ensures { λ r. ⌜ r ≡ k .a *ℤ x +ℤ k .b *ℤ y +ℤ k .c ⌝ }
 {
     let a = k.a;
@@ -57,7 +57,7 @@ fn weigh(k: Coefficients, x: i64, y: i64) -> i64
 }
 
 pub(crate) fn weight(cost: &[i16], reward: &[u16], k: Coefficients, e: usize) -> i64
-    requires { ⌜ InRange (k .a) (k .b) (k .c) ⌝ ∗ ⌜ e < length (now cost) ⌝ ∗ ⌜ e < length (now reward) ⌝ }
+    requires { ⌜ CoefficientsInRange (k .a) (k .b) (k .c) ⌝ ∗ ⌜ e < length (now cost) ⌝ ∗ ⌜ e < length (now reward) ⌝ }
     requires { ⌜ natAbs (atℤ (now cost) e) ≤ 10000 ⌝ ∗ ⌜ at (now reward) e ≤ 10000 ⌝ }
     ensures { λ r. ⌜ r ≡ weightOf (k .a) (k .b) (k .c) (now (cost .entry)) (now (reward .entry)) e ⌝ }
 {

@@ -3,9 +3,9 @@ ghost use mathlib.Core.Path.{_≡_};
 ghost use Prim.Native.Nat.{ℕ, _<_};
 ghost use lib.ListN.{length};
 ghost use lib.Signed.{_≤ℤ_};
-ghost use Rattle.walks.specs.Form.{Arc, Graph, InRange};
+ghost use Rattle.walks.specs.Form.{Arc, Graph, CoefficientsInRange};
 ghost use Rattle.walks.proofs.Tests.{Test};
-ghost use Rattle.graph.specs.Answer.{WellFormed};
+ghost use Rattle.graph.specs.Answer.{SearchArguments};
 use crate::Coefficients;
 use crate::entries;
 
@@ -19,7 +19,7 @@ fn within(x: i64, low: i64, high: i64) -> bool
 }
 
 fn in_range(k: Coefficients) -> bool
-    ensures { λ t. ⌜ Test (InRange (k .a) (k .b) (k .c)) t ⌝ }
+    ensures { λ t. ⌜ Test (CoefficientsInRange (k .a) (k .b) (k .c)) t ⌝ }
 {
     let a = k.a;
     let b = k.b;
@@ -100,7 +100,7 @@ pub(crate) fn well_formed(
     potentials: usize,
     arcs: usize,
 ) -> bool
-    ensures { λ t. ⌜ Test (WellFormed (now (from .entry)) (now (to .entry)) (now (cost .entry)) (now (reward .entry))
+    ensures { λ t. ⌜ Test (SearchArguments (now (from .entry)) (now (to .entry)) (now (cost .entry)) (now (reward .entry))
         (k .a) (k .b) (k .c) nodes potentials arcs) t ⌝ }
 {
     if potentials < nodes {

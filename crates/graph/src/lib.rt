@@ -1,6 +1,6 @@
 // A simple cycle of negative weight that a walk from node 0 reaches, or the potentials: the least weights of walks from node 0.
 // The arc e leads from from[e] to to[e], and weighs a * cost[e] + b * reward[e] + c.
-ghost use Rattle.graph.specs.Answer.{Answered};
+ghost use Rattle.graph.specs.Answer.{SearchAnswered};
 
 mod climb;
 mod copy;
@@ -33,7 +33,7 @@ pub fn negative_cycle(
     potential: &mut [i64],
     cycle: &mut [usize],
 ) -> Answer
-    ensures { λ r. ⌜ Answered (now (from .entry)) (now (to .entry)) (now (cost .entry)) (now (reward .entry)) (k .a) (k .b) (k .c) nodes
+    ensures { λ r. ⌜ SearchAnswered (now (from .entry)) (now (to .entry)) (now (cost .entry)) (now (reward .entry)) (k .a) (k .b) (k .c) nodes
         (now (potential .entry)) (now (potential .exit)) (now (cycle .entry)) (now (cycle .exit)) r ⌝ }
 {
     if !form::well_formed(

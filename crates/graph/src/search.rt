@@ -5,7 +5,7 @@ ghost use mathlib.Core.Path.{_≡_};
 ghost use Prim.Native.Nat.{ℕ, _<_, _≤_};
 ghost use lib.ListN.{length};
 ghost use Rattle.walks.specs.Weight.{weightOf};
-ghost use Rattle.walks.specs.Form.{Graph, InRange};
+ghost use Rattle.walks.specs.Form.{Graph, CoefficientsInRange};
 ghost use Rattle.walks.proofs.Codes.{codes};
 ghost use Rattle.walks.proofs.Rounds.{start, Relaxed, Ended};
 ghost use Rattle.walks.proofs.Coded.{coded, Running};
@@ -91,7 +91,7 @@ pub(crate) fn search(
     potential: &mut [i64],
     cycle: &mut [usize],
 ) -> usize
-    requires { ⌜ Graph (now from) (now to) (now cost) (now reward) nodes ⌝ ∗ ⌜ InRange (k .a) (k .b) (k .c) ⌝ }
+    requires { ⌜ Graph (now from) (now to) (now cost) (now reward) nodes ⌝ ∗ ⌜ CoefficientsInRange (k .a) (k .b) (k .c) ⌝ }
     requires { ⌜ nodes ≤ length (now potential) ⌝ ∗ ⌜ nodes ≤ length (now cycle) ⌝ }
     ensures cycle { λ r. ⌜ (0 < r → CycleFound (now (from .entry)) (now (to .entry))
         (weightOf (k .a) (k .b) (k .c) (now (cost .entry)) (now (reward .entry))) nodes r

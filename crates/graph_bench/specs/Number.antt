@@ -5,5 +5,5 @@ use lib.Dec.{eqb}
 use Rattle.graph.specs.declared.Answer.{Answer}
 use Rattle.graph.specs.declared.Answer.the-variants.{Malformed, Cycle, Potentials}
 
-abbrev pub answerOf : ℕ → Answer
-answerOf r = cond (eqb r 0) Potentials (cond (eqb r 2049) Malformed (Cycle r))
+abbrev pub searchAnswer : ℕ → Answer
+searchAnswer r = cond (eqb r 0) Potentials (cond (eqb r 2049) Malformed (Cycle r))

@@ -1,6 +1,6 @@
 // `negative_cycle` for C, for the measurements of bench/graph.
-ghost use Rattle.graph.specs.Answer.{Answered};
-ghost use Rattle.graph_bench.specs.Number.{answerOf};
+ghost use Rattle.graph.specs.Answer.{SearchAnswered};
+ghost use Rattle.graph_bench.specs.Number.{searchAnswer};
 use graph::Answer;
 use graph::Coefficients;
 
@@ -18,8 +18,8 @@ pub extern "C" fn graph_bench_negative_cycle(
     potential: &mut [i64],
     cycle: &mut [usize],
 ) -> usize
-    ensures { λ r. ⌜ Answered (now (from .entry)) (now (to .entry)) (now (cost .entry)) (now (reward .entry)) a b c nodes
-        (now (potential .entry)) (now (potential .exit)) (now (cycle .entry)) (now (cycle .exit)) (answerOf r) ⌝ }
+    ensures { λ r. ⌜ SearchAnswered (now (from .entry)) (now (to .entry)) (now (cost .entry)) (now (reward .entry)) a b c nodes
+        (now (potential .entry)) (now (potential .exit)) (now (cycle .entry)) (now (cycle .exit)) (searchAnswer r) ⌝ }
 {
     let answer = graph::negative_cycle(
         from,

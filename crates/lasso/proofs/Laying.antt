@@ -6,12 +6,12 @@ use Prim.Native.Nat.{ℕ, _+_, _-_, _≤_, _<_}
 use native.Mathlib.Omega.{arith}
 use lib.ListN.{length, take, drop}
 use lib.Seq.{slice, paste, take-all, take-length, take-take, drop-drop, take-at, drop-at, take-paste, drop-paste, length-paste, length-take-le, length-slice, getD-take, getD-drop}
-use Rattle.walks.specs.Walk.{at, Walk, Distinct}
-use Rattle.walks.specs.Lasso.{Lasso, Tree, Stem}
+use Rattle.walks.specs.Walk.{at, ArcWalk, Distinct}
+use Rattle.walks.specs.Lasso.{ArcLasso, Tree, Stem}
 use Rattle.walks.proofs.Walks.{Cut, cut, walk-first}
 use Rattle.walks.proofs.Lassos.{lasso, join-at}
 use Rattle.walks.proofs.Trees.{slice-join, take-part}
-use Rattle.lasso.specs.Answer.{WellFormed, LaidOut}
+use Rattle.lasso.specs.Answer.{LassoArguments, LaidOut}
 
 -- what is behind a copy stays
 behind : (d : List ℕ) (start : ℕ) (s : List ℕ) (n j : ℕ) → start ≤ length d → n ≤ length s → start + n ≤ j → drop j (paste d start s n) ≡ drop j d
@@ -60,11 +60,11 @@ module _ (d x y z : List ℕ) (a b c : ℕ) (hx : length x ≡ a) (hy : length y
 
 -- a simple cycle laid out so is a lasso
 pub lasso-laid : (F T cycle : List ℕ) (n k s : ℕ) (arcs arcs' : List ℕ) (x : ℕ) → k ≤ length cycle → LaidOut F T cycle n k s arcs arcs'
-    → Walk F T (length F) x (take k cycle) x → Distinct F (take k cycle) → Lasso F T (length F) (take s arcs') (slice s (s + k) arcs')
+    → ArcWalk F T (length F) x (take k cycle) x → Distinct F (take k cycle) → ArcLasso F T (length F) (take s arcs') (slice s (s + k) arcs')
 lasso-laid F T cycle n k s arcs arcs' x hk l w d =
-    subst (Lasso F T (length F) (take s arcs')) (sym (l .turned))
-    (lasso F T (length F) (take s arcs') p q x (at F (at cycle t)) (l .stem .walk) (l .stem .rising) (subst (Walk F T (length F) x p) (sym here) (parts .left))
-    (subst (λ (y : ℕ). Walk F T (length F) y q x) (sym here) (parts .right)) (omega (arith, long-q, l .below)) (subst (Distinct F) split d) first)
+    subst (ArcLasso F T (length F) (take s arcs')) (sym (l .turned))
+    (lasso F T (length F) (take s arcs') p q x (at F (at cycle t)) (l .stem .walk) (l .stem .rising) (subst (ArcWalk F T (length F) x p) (sym here) (parts .left))
+    (subst (λ (y : ℕ). ArcWalk F T (length F) y q x) (sym here) (parts .right)) (omega (arith, long-q, l .below)) (subst (Distinct F) split d) first)
   where
     t : ℕ
     t = l .turn
@@ -79,7 +79,7 @@ lasso-laid F T cycle n k s arcs arcs' x hk l w d =
     split = slice-join 0 t k cycle (omega arith) (omega (arith, l .below))
 
     parts : Cut F T (length F) x p q x
-    parts = cut F T (length F) x p q x (subst (λ (c : List ℕ). Walk F T (length F) x c x) split w)
+    parts = cut F T (length F) x p q x (subst (λ (c : List ℕ). ArcWalk F T (length F) x c x) split w)
 
     long-q : length q ≡ k - t
     long-q = length-slice t k cycle hk
@@ -101,7 +101,7 @@ lasso-laid F T cycle n k s arcs arcs' x hk l w d =
         (join-at q p i h)
 
 -- the tree of well formed arguments
-abbrev pub tree-of : (F T tree cycle : List ℕ) (n k room : ℕ) → WellFormed F T tree cycle n k room → Tree F tree n
+abbrev pub tree-of : (F T tree cycle : List ℕ) (n k room : ℕ) → LassoArguments F T tree cycle n k room → Tree F tree n
 tree-of F T tree cycle n k room w = record {
   T = T;
   m = length F;

@@ -21,7 +21,7 @@ pub record CycleArc (F cycle : List ℕ) (n i : ℕ) : Type 0 where
   pub source : at F (at cycle i) < n
 
 -- the arguments: a tree of n nodes, k arcs in cycle, and room for a stem and the cycle
-pub record WellFormed (F T tree cycle : List ℕ) (n k room : ℕ) : Type 0 where
+pub record LassoArguments (F T tree cycle : List ℕ) (n k room : ℕ) : Type 0 where
   pub few : n ≤ 2048
   pub tos : length T ≡ length F
   pub tree-room : n ≤ length tree
@@ -41,6 +41,6 @@ pub record LaidOut (F T cycle : List ℕ) (n k s : ℕ) (arcs arcs' : List ℕ) 
   pub turned : slice s (s + k) arcs' ≡ slice turn k cycle ++ take turn cycle
   pub rest : drop (s + k) arcs' ≡ drop (s + k) arcs
 
-abbrev pub Answered : List ℕ → List ℕ → List ℕ → List ℕ → ℕ → ℕ → List ℕ → List ℕ → Answer → Type 0
-Answered F T tree cycle n k arcs arcs' Malformed = (WellFormed F T tree cycle n k (length arcs) → ⊥) × (arcs' ≡ arcs)
-Answered F T tree cycle n k arcs arcs' (Laid s) = WellFormed F T tree cycle n k (length arcs) × LaidOut F T cycle n k s arcs arcs'
+abbrev pub LassoAnswered : List ℕ → List ℕ → List ℕ → List ℕ → ℕ → ℕ → List ℕ → List ℕ → Answer → Type 0
+LassoAnswered F T tree cycle n k arcs arcs' Malformed = (LassoArguments F T tree cycle n k (length arcs) → ⊥) × (arcs' ≡ arcs)
+LassoAnswered F T tree cycle n k arcs arcs' (Laid s) = LassoArguments F T tree cycle n k (length arcs) × LaidOut F T cycle n k s arcs arcs'

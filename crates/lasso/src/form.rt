@@ -4,7 +4,7 @@ ghost use mathlib.Core.Path.{_≡_};
 ghost use lib.ListN.{length};
 ghost use Rattle.walks.specs.Walk.{at};
 ghost use Rattle.walks.proofs.Tests.{Test};
-ghost use Rattle.lasso.specs.Answer.{TreeArc, CycleArc, WellFormed};
+ghost use Rattle.lasso.specs.Answer.{TreeArc, CycleArc, LassoArguments};
 
 // The node at a place.
 pub(crate) fn node(s: &[u16], e: usize) -> usize
@@ -76,7 +76,7 @@ pub(crate) fn well_formed(
     k: usize,
     room: usize,
 ) -> bool
-    ensures { λ t. ⌜ Test (WellFormed (now (from .entry)) (now (to .entry)) (now (tree .entry)) (now (cycle .entry)) nodes k room) t ⌝ }
+    ensures { λ t. ⌜ Test (LassoArguments (now (from .entry)) (now (to .entry)) (now (tree .entry)) (now (cycle .entry)) nodes k room) t ⌝ }
 {
     if 2048 < nodes {
         return false;

@@ -5,7 +5,7 @@ ghost use lib.ListN.{length};
 ghost use lib.Seq.{slice, paste};
 ghost use Rattle.walks.specs.Walk.{at};
 ghost use Rattle.walks.specs.Lasso.{Tree, Stem};
-ghost use Rattle.lasso.specs.Answer.{WellFormed, LaidOut};
+ghost use Rattle.lasso.specs.Answer.{LassoArguments, LaidOut};
 use crate::form::node;
 
 // The tree's arcs from node 0 to h, at the end of order; where they begin.
@@ -67,7 +67,7 @@ pub(crate) fn lay_out(
     k: usize,
     arcs: &mut [usize],
 ) -> usize
-    requires { ⌜ WellFormed (now from) (now to) (now tree) (now cycle) nodes k (length (now arcs)) ⌝ }
+    requires { ⌜ LassoArguments (now from) (now to) (now tree) (now cycle) nodes k (length (now arcs)) ⌝ }
     ensures { λ s. ⌜ LaidOut (now (from .entry)) (now (to .entry)) (now (cycle .entry)) nodes k s (now (arcs .entry)) (now (arcs .exit)) ⌝ }
 {
     let mut order = [0usize; 2048];

@@ -1,6 +1,6 @@
 // The lasso: a stem along the search tree to the first discovered of a cycle's nodes, and the cycle, turned to begin there.
 // The arc e leads from from[e] to to[e]; nodes are numbered as they were discovered.
-ghost use Rattle.lasso.specs.Answer.{Answered};
+ghost use Rattle.lasso.specs.Answer.{LassoAnswered};
 
 mod form;
 mod lay;
@@ -22,7 +22,7 @@ pub fn lasso_of(
     k: usize,
     arcs: &mut [usize],
 ) -> Answer
-    ensures { λ r. ⌜ Answered (now (from .entry)) (now (to .entry)) (now (tree .entry)) (now (cycle .entry)) nodes k (now (arcs .entry)) (now (arcs .exit)) r ⌝ }
+    ensures { λ r. ⌜ LassoAnswered (now (from .entry)) (now (to .entry)) (now (tree .entry)) (now (cycle .entry)) nodes k (now (arcs .entry)) (now (arcs .exit)) r ⌝ }
 {
     if !form::well_formed(from, to, tree, nodes, cycle, k, arcs.len()) {
         return Answer::Malformed;

@@ -15,7 +15,7 @@ use Rattle.automaton.specs.Automaton.{inBounds}
 use Rattle.automaton.specs.Nodes.{startNode, Sound}
 use Rattle.automaton.proofs.Tests.{&&-right, &&-intro}
 use Rattle.sheet.specs.Bytes.{byteAt, signedOf}
-use Rattle.sheet.specs.Fields.{first, costInRange, inRange, fieldOf}
+use Rattle.sheet.specs.Fields.{firstEdition, costInRange, inRange, fieldOf}
 use Rattle.sheet.specs.Records.{fieldAt, boundAt, recordAt, locationAt, edgeAt, locationsIn, clocksIn, edgesIn}
 use Rattle.sheet.specs.Questions.{each, firstOf, whereThere, fieldGood, mapCode, fieldsCode, boundsCode, endsCode, locationCode, edgeCode, startCode, recordsCode, checkOf}
 use Rattle.sheet.specs.declared.fields.Kind.{Kind}
@@ -74,13 +74,13 @@ edge-ends k l s at h =
 
 module _ (kind : Kind) (k : ℕ) (s : List ℕ) (at : ℕ) where
   -- a field of bit b whose range keeps v in P, and what stands for an absent one
-  field-value : {P : ℕ → Type 0} (b d : ℕ) → fieldGood kind k s at b ≡ true → ((v : ℕ) → inRange k (fieldOf first kind b) v ≡ true → P v) → P d
+  field-value : {P : ℕ → Type 0} (b d : ℕ) → fieldGood kind k s at b ≡ true → ((v : ℕ) → inRange k (fieldOf firstEdition kind b) v ≡ true → P v) → P d
       → P (Option·getD (fieldAt kind s at b) d)
   unfolding fieldGood
-  field-value b d h f z = or-absent (inRange k (fieldOf first kind b)) (fieldAt kind s at b) d h f z
+  field-value b d h f z = or-absent (inRange k (fieldOf firstEdition kind b)) (fieldAt kind s at b) d h f z
 
   -- an upper byte is at most 25
-  upper-value : (P : ℕ → Type 0) (b d j : ℕ) → fieldGood kind k s at b ≡ true → fieldOf first kind b ≡ Upper j → ((v : ℕ) → v ≤ 25 → P v) → P d
+  upper-value : (P : ℕ → Type 0) (b d j : ℕ) → fieldGood kind k s at b ≡ true → fieldOf firstEdition kind b ≡ Upper j → ((v : ℕ) → v ≤ 25 → P v) → P d
       → P (Option·getD (fieldAt kind s at b) d)
   unfolding inRange
   upper-value P b d j h e f z = field-value b d h (λ v i. f v (bounds v 0 25 (subst (λ y. inRange k y v ≡ true) e i) .1)) z
@@ -90,12 +90,12 @@ abs-cost : (z : ℤ) → costInRange z ≡ true → natAbs z ≤ 10000
 unfolding costInRange
 abs-cost z h = leb-true (natAbs z) 10000 (&&-right (not (eqb (natAbs z) 0)) (leb (natAbs z) 10000) h)
 
-cost-of : (kind : Kind) (k v : ℕ) → inRange k (fieldOf first kind 0) v ≡ true → natAbs (signedOf v) ≤ 10000
+cost-of : (kind : Kind) (k v : ℕ) → inRange k (fieldOf firstEdition kind 0) v ≡ true → natAbs (signedOf v) ≤ 10000
 unfolding inRange fieldOf
 cost-of LocationRecord k v h = abs-cost (signedOf v) h
 cost-of EdgeRecord k v h = abs-cost (signedOf v) h
 
-reward-of : (kind : Kind) (k v : ℕ) → inRange k (fieldOf first kind 1) v ≡ true → v ≤ 10000
+reward-of : (kind : Kind) (k v : ℕ) → inRange k (fieldOf firstEdition kind 1) v ≡ true → v ≤ 10000
 unfolding inRange fieldOf
 reward-of LocationRecord k v h = bounds v 1 10000 h .1
 reward-of EdgeRecord k v h = bounds v 1 10000 h .1
@@ -131,18 +131,18 @@ module _ (s : List ℕ) (ok : checkOf s ≡ 0) where
   all = parts s (header s ok .records)
 
   bound-value : (l j : ℕ) → l < locationsIn s → j < clocksIn s → boundAt s (locationAt s l) j ≤ 25
-  bound-value l j h i = upper-value LocationRecord (clocksIn s) s (locationAt s l) (λ v. v ≤ 25) (first .bound + j) 0 (first .bound + j - 2)
-      (location-good (clocksIn s) s (locationAt s l) (all .locations l h) (first .bound + j) (omega (arith, head .clocks .1)))
-      (location-upper (first .bound + j) (omega arith) (omega (arith, head .clocks .1))) (λ v b. b) (omega arith)
+  bound-value l j h i = upper-value LocationRecord (clocksIn s) s (locationAt s l) (λ v. v ≤ 25) (firstEdition .bound + j) 0 (firstEdition .bound + j - 2)
+      (location-good (clocksIn s) s (locationAt s l) (all .locations l h) (firstEdition .bound + j) (omega (arith, head .clocks .1)))
+      (location-upper (firstEdition .bound + j) (omega arith) (omega (arith, head .clocks .1))) (λ v b. b) (omega arith)
 
   pub guard-value : (e j : ℕ) → e < edgesIn s → j < clocksIn s
-      → fieldAt EdgeRecord s (edgeAt s e) (first .upper + j) ≡ guardOf (Option·getD (fieldAt EdgeRecord s (edgeAt s e) (first .upper + j)) 255)
+      → fieldAt EdgeRecord s (edgeAt s e) (firstEdition .upper + j) ≡ guardOf (Option·getD (fieldAt EdgeRecord s (edgeAt s e) (firstEdition .upper + j)) 255)
   unfolding fieldGood inRange
-  guard-value e j h i = told-absent (inRange (clocksIn s) (fieldOf first EdgeRecord (first .upper + j)))
-      (fieldAt EdgeRecord s (edgeAt s e) (first .upper + j))
-      (edge-good (clocksIn s) (locationsIn s) s (edgeAt s e) (all .edges e h) (first .upper + j) (omega (arith, head .clocks .1)))
+  guard-value e j h i = told-absent (inRange (clocksIn s) (fieldOf firstEdition EdgeRecord (firstEdition .upper + j)))
+      (fieldAt EdgeRecord s (edgeAt s e) (firstEdition .upper + j))
+      (edge-good (clocksIn s) (locationsIn s) s (edgeAt s e) (all .edges e h) (firstEdition .upper + j) (omega (arith, head .clocks .1)))
       (λ v q. bounds v 0 25 (subst (λ y. inRange (clocksIn s) y v ≡ true)
-      (edge-upper (first .upper + j) (omega arith) (omega (arith, head .clocks .1))) q) .1)
+      (edge-upper (firstEdition .upper + j) (omega arith) (omega (arith, head .clocks .1))) q) .1)
 
   pub sound : Sound (meaning s)
   unfolding meaning inBounds startNode recordAt

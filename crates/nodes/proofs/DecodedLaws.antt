@@ -16,7 +16,7 @@ use Rattle.automaton.specs.Steps.{edgeStep, unitStep, moveStep, step}
 use Rattle.automaton.proofs.Codes.{step-edge}
 use Rattle.automaton.proofs.Tests.{by-bool}
 use Rattle.sheet.specs.Maps.{stands}
-use Rattle.sheet.specs.Fields.{first}
+use Rattle.sheet.specs.Fields.{firstEdition}
 use Rattle.sheet.specs.Records.{fieldAt, recordAt, locationAt, edgeAt, locationsIn, clocksIn, edgesIn}
 use Rattle.sheet.specs.Questions.{checkOf}
 use Rattle.sheet.specs.Decoded.{clockBytes, locationOf, edgeOf, blankLocation, blankEdge, locationsOf, edgesOf, decodedSheet, refusedSheet, readOf}
@@ -70,14 +70,14 @@ module _ (s : List ℕ) (ok : checkOf s ≡ 0) where
     locations = refl;
     clocks = omega (arith, three);
     edges = refl;
-    bound = λ l j h i. clock-byte LocationRecord s (locationAt s l) (first .bound) 0 j (omega (arith, three))
+    bound = λ l j h i. clock-byte LocationRecord s (locationAt s l) (firstEdition .bound) 0 j (omega (arith, three))
         ∙ sym (ap (λ (x : Location). boundIn x j) (location-there l h));
     costRate = λ l h. sym (ap (λ (x : Location). x .cost) (location-there l h));
     rewardRate = λ l h. sym (ap (λ (x : Location). x .reward) (location-there l h));
     source = λ e h. sym (ap (λ (x : Edge). x .source) (edge-there e h));
     target = λ e h. sym (ap (λ (x : Edge). x .target) (edge-there e h));
-    lower = λ e j h i. clock-byte EdgeRecord s (edgeAt s e) (first .lower) 0 j (omega (arith, three)) ∙ sym (ap (λ (x : Edge). lowerIn x j) (edge-there e h));
-    upper = λ e j h i. guard-value s ok e j h i ∙ ap guardOf (clock-byte EdgeRecord s (edgeAt s e) (first .upper) 255 j (omega (arith, three)))
+    lower = λ e j h i. clock-byte EdgeRecord s (edgeAt s e) (firstEdition .lower) 0 j (omega (arith, three)) ∙ sym (ap (λ (x : Edge). lowerIn x j) (edge-there e h));
+    upper = λ e j h i. guard-value s ok e j h i ∙ ap guardOf (clock-byte EdgeRecord s (edgeAt s e) (firstEdition .upper) 255 j (omega (arith, three)))
         ∙ sym (ap (λ (x : Edge). upperIn x j) (edge-there e h));
     reset = λ e j h i. sym (ap (λ (x : Edge). stands (x .reset) j) (edge-there e h));
     cost = λ e h. sym (ap (λ (x : Edge). x .cost) (edge-there e h));

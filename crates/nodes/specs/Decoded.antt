@@ -7,7 +7,7 @@ use lib.ListN.{getD}
 use Rattle.automaton.specs.Tests.{only}
 use Rattle.automaton.specs.Automaton.{Automaton}
 use Rattle.sheet.specs.Maps.{stands}
-use Rattle.sheet.specs.Fields.{first}
+use Rattle.sheet.specs.Fields.{firstEdition}
 use Rattle.sheet.specs.Decoded.{blankLocation, blankEdge}
 use Rattle.sheet.specs.declared.Location.{Location}
 use Rattle.sheet.specs.declared.Edge.{Edge}
@@ -15,7 +15,7 @@ use Rattle.sheet.specs.declared.Sheet.{Sheet}
 
 -- edition 1 has no more clocks than these
 abbrev pub fewClocks : ℕ → ℕ
-fewClocks k = min k (first .clocks)
+fewClocks k = min k (firstEdition .clocks)
 
 -- an absent upper guard is 255
 abbrev pub guardOf : ℕ → Option ℕ
@@ -53,8 +53,12 @@ decodedMeaning s = record {
   reward = λ e. edgeIn s e .reward;
 }
 
--- So many clocks, one edge, by the code 0, and one location's record for each location that four bits can tell. A step needs no more of a sheet:
--- an edge needs its own record and its target's, a delay its location's.
+-- The automaton of one edge's record and one location's: one edge, by the code 0, and the same record at each location that four bits can tell.
+-- A step needs no more of a sheet s. For an example, let its edge 7 lead from location 2 to location 5. That step, code 7 at a node of location 2,
+-- reads the record of edge 7 and, for the bounds where it lands, that of location 5: it is the step with code 0 of
+-- `alone (s .clocks) (edgeIn s 7) (locationIn s 5)`. A delay in location 2, code 32 or 33, reads that location's record only: it is the step with
+-- the same code of `alone (s .clocks) e (locationIn s 2)`, whatever e is. That it steps as the sheet does is proved for every sheet, number and
+-- code in DecodedLaws.antt: edge-alone-number, delay-alone-number, and number-alone for question 15.
 unfoldable pub alone : ℕ → Edge → Location → Automaton
 alone k e l = record {
   locations = 16;

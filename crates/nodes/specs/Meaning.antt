@@ -5,7 +5,7 @@ use Prim.Native.Nat.{ℕ, _+_}
 use Rattle.automaton.specs.Automaton.{Automaton}
 use Rattle.sheet.specs.Bytes.{byteAt, signedOf}
 use Rattle.sheet.specs.Maps.{stands}
-use Rattle.sheet.specs.Fields.{first}
+use Rattle.sheet.specs.Fields.{firstEdition}
 use Rattle.sheet.specs.Records.{fieldAt, boundAt, locationAt, edgeAt, locationsIn, clocksIn, edgesIn}
 use Rattle.sheet.specs.declared.fields.Kind.the-variants.{LocationRecord, EdgeRecord}
 use Rattle.nodes.specs.Numbers.{Layout, firstLayout}
@@ -22,8 +22,8 @@ meaning s = record {
   rewardRate = λ l. Option·getD (fieldAt LocationRecord s (locationAt s l) 1) 0;
   source = λ e. byteAt s (edgeAt s e + 2);
   target = λ e. byteAt s (edgeAt s e + 3);
-  lower = λ e j. Option·getD (fieldAt EdgeRecord s (edgeAt s e) (first .lower + j)) 0;
-  upper = λ e j. fieldAt EdgeRecord s (edgeAt s e) (first .upper + j);
+  lower = λ e j. Option·getD (fieldAt EdgeRecord s (edgeAt s e) (firstEdition .lower + j)) 0;
+  upper = λ e j. fieldAt EdgeRecord s (edgeAt s e) (firstEdition .upper + j);
   reset = λ e j. stands (Option·getD (fieldAt EdgeRecord s (edgeAt s e) 2) 0) j;
   cost = λ e. signedOf (Option·getD (fieldAt EdgeRecord s (edgeAt s e) 0) 0);
   reward = λ e. Option·getD (fieldAt EdgeRecord s (edgeAt s e) 1) 0;

@@ -10,11 +10,11 @@ use Rattle.walks.specs.Walk.{at}
 use Rattle.lasso.specs.Answer.{LaidOut}
 use Rattle.contract.specs.Plan.{Buffers, LongEnough, Planned, Answer}
 use Rattle.contract.specs.Explored.{Found, Sorted}
-use Rattle.contract.proofs.Hand.{InHand}
+use Rattle.contract.proofs.Checklist.{InHand}
 use Rattle.contract.proofs.Exits.{accepted}
-use Rattle.planner.specs.Lent as Lent
-use Rattle.planner.specs.Lent.{lent}
-use Rattle.planner.specs.Hands.{cleared, Picked, Cyclic, Solved, graphOf}
+use Rattle.planner.specs.ContractTerms as ContractTerms
+use Rattle.planner.specs.ContractTerms.{lentBuffers}
+use Rattle.planner.specs.PrivatePromises.{cleared, Picked, Cyclic, Solved, graphOf}
 use Rattle.planner.proofs.ListLaws.{cleared-sized, cleared-front, cleared-rest}
 use Rattle.planner.proofs.LassoLaws as Laid
 
@@ -41,10 +41,10 @@ sorted-cleared g order nodes h s = record {
 }
 
 module _ {F T C order tree cycle : List ℕ} {D : List ℤ} {n k s : ℕ} {p : ℤ} {q : ℕ} {arcs arcs' : List ℕ} {N : List ℕ} {P P' : List ℤ} {S S' : List ℕ}
-    (c : Cyclic F T C order tree cycle n k) (long : LongEnough (lent N P S)) (sized : length arcs' ≡ 4096) (laid : LaidOut F T cycle n k s arcs arcs')
-    (permuted : Picked (pos 0) D order n P P') (encoded : Picked 0 C arcs' (s + k) S S') (o : Solved F T C order D cycle n k p q (lent N P S)) where
+    (c : Cyclic F T C order tree cycle n k) (long : LongEnough (lentBuffers N P S)) (sized : length arcs' ≡ 4096) (laid : LaidOut F T cycle n k s arcs arcs')
+    (permuted : Picked (pos 0) D order n P P') (encoded : Picked 0 C arcs' (s + k) S S') (o : Solved F T C order D cycle n k p q (lentBuffers N P S)) where
   abbrev after : Buffers
-  after = lent (cleared 0 N n) (cleared (pos 0) P' n) (cleared 0 S' (s + k))
+  after = lentBuffers (cleared 0 N n) (cleared (pos 0) P' n) (cleared 0 S' (s + k))
 
   abbrev g : Found
   g = graphOf (o .of-sheet .node) F T C (o .cost) (o .reward) n
@@ -100,11 +100,11 @@ module _ {F T C order tree cycle : List ℕ} {D : List ℤ} {n k s : ℕ} {p : �
       sized-steps : length (cleared 0 S' (s + k)) ≡ length S
       sized-steps = written-sized step-room encoded
 
-  answered : Planned (o .of-sheet .bytes) (o .of-sheet .before) after (Lent.accepted p q n s k)
+  answered : Planned (o .of-sheet .bytes) (o .of-sheet .before) after (ContractTerms.accepted p q n s k)
   answered = subst (Planned (o .of-sheet .bytes) (o .of-sheet .before) after)
-      (ap₂ (Lent.accepted p q n) stem-sized turned-sized)
+      (ap₂ (ContractTerms.accepted p q n) stem-sized turned-sized)
       (accepted (o .of-sheet .bytes) (o .of-sheet .before) after g p q D order stem turned hand)
 
   pub accepted-planned : {N' : List ℕ} {P'' : List ℤ} {S'' : List ℕ} {a : Answer} → N' ≡ cleared 0 N n → P'' ≡ cleared (pos 0) P' n → S'' ≡ cleared 0 S' (s + k)
-      → a ≡ Lent.accepted p q n s k → Planned (o .of-sheet .bytes) (o .of-sheet .before) (lent N' P'' S'') a
+      → a ≡ ContractTerms.accepted p q n s k → Planned (o .of-sheet .bytes) (o .of-sheet .before) (lentBuffers N' P'' S'') a
   accepted-planned en ep es e = rw (en, ep, es, e) answered

@@ -13,36 +13,36 @@ use Rattle.integers.proofs.Machine.{small}
 use Rattle.walks.specs.Walk.{at}
 use Rattle.walks.specs.Cycles.{Acyclic, Idle}
 use Rattle.walks.proofs.Walks.{walk-arc}
-use Rattle.ratio.specs.Answer.{RatioFound, Judged}
+use Rattle.ratio.specs.Answer.{RatioFound, RatioAnswered}
 use Rattle.ratio.specs.declared.Verdict.{Verdict}
 use Rattle.ratio.specs.declared.Verdict.the-variants.{Malformed, NoCycle, NoReward, Ratio}
 use Rattle.ratio.proofs.VerdictLaws.{room}
-use Rattle.contract.specs.Plan.{Answer, refused, Buffers, zeros, SameLengths, Planned}
-use Rattle.planner.specs.Lent.{lent}
-use Rattle.planner.specs.Hands.{Handed, Cyclic, Settled}
+use Rattle.contract.specs.Plan.{Answer, refusedPlan, Buffers, zeros, SameLengths, Planned}
+use Rattle.planner.specs.ContractTerms.{lentBuffers}
+use Rattle.planner.specs.PrivatePromises.{Handed, Cyclic, PlannedButForClearing}
 
 -- ---- what is settled
 module _ {bytes : List ℕ} {before after : Buffers} {a : Answer} where
-  pub settled-refused : (r : ℕ) → a ≡ refused r → 0 < r → Planned bytes before (zeros before) (refused r) → Settled bytes before after a
+  pub settled-refused : (r : ℕ) → a ≡ refusedPlan r → 0 < r → Planned bytes before (zeros before) (refusedPlan r) → PlannedButForClearing bytes before after a
   settled-refused r e h w = record {
     planned = λ z. absurd (omega (arith, ap (λ (x : Answer). x .refusal) e));
     cleared = λ _. rw (ap (λ (x : Answer). x .refusal) e) w;
   }
 
-  pub settled-accepted : a .refusal ≡ 0 → Planned bytes before after a → Settled bytes before after a
+  pub settled-accepted : a .refusal ≡ 0 → Planned bytes before after a → PlannedButForClearing bytes before after a
   settled-accepted e w = record { planned = λ _. w; cleared = λ n. absurd (n e) }
 
 -- a refusal, once the buffers are cleared
 pub refused-planned : {bytes : List ℕ} {before : Buffers} {N : List ℕ} {P : List ℤ} {S N' : List ℕ} {P' : List ℤ} {S' : List ℕ} {r : ℕ} {a : Answer}
-    → SameLengths (lent N P S) before → N' ≡ replicate (length N) 0 → P' ≡ replicate (length P) (pos 0) → S' ≡ replicate (length S) 0 → a ≡ refused r
-    → Planned bytes before (zeros before) (refused r) → Planned bytes before (lent N' P' S') a
+    → SameLengths (lentBuffers N P S) before → N' ≡ replicate (length N) 0 → P' ≡ replicate (length P) (pos 0) → S' ≡ replicate (length S) 0 → a ≡ refusedPlan r
+    → Planned bytes before (zeros before) (refusedPlan r) → Planned bytes before (lentBuffers N' P' S') a
 refused-planned l en ep es ea h =
     rw (en ∙ ap (λ (n : ℕ). replicate n 0) (l .nodes), ep ∙ ap (λ (n : ℕ). replicate n (pos 0)) (l .potentials), es ∙ ap (λ (n : ℕ). replicate n 0) (l .steps), ea) h
 
 module _ {F T C : List ℕ} {Z : List ℤ} {R order tree : List ℕ} {n : ℕ} (h : Handed F T C Z R order tree n) (D : List ℤ) (cycle : List ℕ) (W : Verdict)
-    (z : Judged F T Z R n (replicate 2048 (pos 0)) D (replicate 2048 0) cycle W) where
+    (z : RatioAnswered F T Z R n (replicate 2048 (pos 0)) D (replicate 2048 0) cycle W) where
   abbrev Is : Verdict → Type 0
-  Is = Judged F T Z R n (replicate 2048 (pos 0)) D (replicate 2048 0) cycle
+  Is = RatioAnswered F T Z R n (replicate 2048 (pos 0)) D (replicate 2048 0) cycle
 
   pub never : W ≡ Malformed → ⊥
   never e = subst Is e z .0

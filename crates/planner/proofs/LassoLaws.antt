@@ -8,16 +8,16 @@ use lib.ListN.{length, take, replicate, length-replicate}
 use lib.Seq.{slice, length-take-le, length-slice, getD-take}
 use Rattle.walks.specs.Walk.{at, atℤ}
 use Rattle.walks.specs.Weight.{sum, total}
-use Rattle.walks.specs.Lasso.{Lasso}
+use Rattle.walks.specs.Lasso.{ArcLasso}
 use Rattle.walks.proofs.Lassos.{lasso-arc, lasso-short}
 use Rattle.walks.proofs.Trees.{slice-join}
-use Rattle.lasso.specs.Answer.{WellFormed, LaidOut, Answered}
+use Rattle.lasso.specs.Answer.{LassoArguments, LaidOut, LassoAnswered}
 use Rattle.lasso.specs.declared.Answer.{Answer}
 use Rattle.lasso.specs.declared.Answer.the-variants.{Malformed, Laid}
 use Rattle.lasso.proofs.Laying.{lasso-laid}
 use Rattle.contract.specs.Explored.{Found}
 use Rattle.contract.proofs.Graphs.{exact-turned}
-use Rattle.planner.specs.Hands.{Cyclic, Pickable}
+use Rattle.planner.specs.PrivatePromises.{Cyclic, Pickable}
 
 module _ {F T C order tree cycle : List ℕ} {n k s : ℕ} {arcs arcs' : List ℕ} (c : Cyclic F T C order tree cycle n k)
     (sized : length arcs' ≡ 4096) (laid : LaidOut F T cycle n k s arcs arcs') where
@@ -36,7 +36,7 @@ module _ {F T C order tree cycle : List ℕ} {n k s : ℕ} {arcs arcs' : List �
   pub turned-sized : length turned ≡ k
   turned-sized = length-slice s (s + k) arcs' (omega (arith, room)) ∙ omega arith
 
-  pub is-lasso : Lasso F T (length F) stem turned
+  pub is-lasso : ArcLasso F T (length F) stem turned
   is-lasso = lasso-laid F T cycle n k s arcs arcs' (c .simple .hub) (c .formed .cycle-room) laid (c .simple .cycle .walk) (c .simple .simple)
 
   pub short : s + k ≤ n
@@ -72,10 +72,10 @@ module _ {F T C order tree cycle : List ℕ} {n k s : ℕ} {arcs arcs' : List �
       Exact l = pos q *ℤ sum (atℤ (g .cost)) l ≡ p *ℤ pos (total (at (g .reward)) l)
 
 -- by what `lasso_of` answered
-module _ (F T tree cycle : List ℕ) (n k : ℕ) (arcs' : List ℕ) (A : Answer) (z : Answered F T tree cycle n k (replicate 4096 0) arcs' A) where
-  pub never : A ≡ Malformed → WellFormed F T tree cycle n k 4096 → ⊥
-  never e w = subst (Answered F T tree cycle n k (replicate 4096 0) arcs') e z .0
-      (subst (WellFormed F T tree cycle n k) (sym (length-replicate {A = ℕ} 4096 0)) w)
+module _ (F T tree cycle : List ℕ) (n k : ℕ) (arcs' : List ℕ) (A : Answer) (z : LassoAnswered F T tree cycle n k (replicate 4096 0) arcs' A) where
+  pub never : A ≡ Malformed → LassoArguments F T tree cycle n k 4096 → ⊥
+  never e w = subst (LassoAnswered F T tree cycle n k (replicate 4096 0) arcs') e z .0
+      (subst (LassoArguments F T tree cycle n k) (sym (length-replicate {A = ℕ} 4096 0)) w)
 
   pub laid-of : (s : ℕ) → A ≡ Laid s → LaidOut F T cycle n k s (replicate 4096 0) arcs'
-  laid-of s e = subst (Answered F T tree cycle n k (replicate 4096 0) arcs') e z .1
+  laid-of s e = subst (LassoAnswered F T tree cycle n k (replicate 4096 0) arcs') e z .1

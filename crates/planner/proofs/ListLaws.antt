@@ -8,7 +8,7 @@ use lib.Seq.{length-take-le, take-at, take-all, drop-length, getD-append-add, ge
 use Rattle.automaton.proofs.Tests.{by-order}
 use Rattle.walks.specs.Walk.{at}
 use Rattle.walks.proofs.Copies.{copy-more}
-use Rattle.planner.specs.Hands.{cleared, Picked, Pickable}
+use Rattle.planner.specs.PrivatePromises.{cleared, Picked, Pickable}
 
 module _ {A : Type 0} (zero : A) (l : List A) (a : ℕ) (h : a ≤ length l) where
   abbrev s : List A

@@ -15,18 +15,18 @@ use Rattle.contract.specs.Plan.{stepOn, startOf}
 use Rattle.contract.specs.Explored.{Explored, Overfull, stepRead, startRead, Sorted}
 use Rattle.contract.proofs.Graphs.{Room, cut, explored-cut, graph}
 use Rattle.contract.proofs.DecodedSheets.{explored-read, overfull-read}
-use Rattle.explore.specs.Buffers.{Buffers, buffers, found, LongEnough}
-use Rattle.explore.specs.Answer.{Filled, Answered}
+use Rattle.explore.specs.Buffers.{GraphBuffers, graphBuffers, found, HasRoom}
+use Rattle.explore.specs.Answer.{Filled, ExploreAnswered}
 use Rattle.explore.specs.declared.Outcome.{Outcome}
 use Rattle.explore.specs.declared.Outcome.the-variants.{Malformed, TooMany, Graph}
-use Rattle.planner.specs.Hands.{ReadFrom, Handed, OfSheet}
+use Rattle.planner.specs.PrivatePromises.{ReadFrom, Handed, OfSheet}
 
 -- the buffers as `explore` finds them: new ones, but for the lent one that takes the numbers in rising order
-abbrev pub fresh : List ℕ → Buffers
-fresh N = buffers (replicate 2048 0) N (replicate 2048 0) (replicate 2048 0)
+abbrev pub fresh : List ℕ → GraphBuffers
+fresh N = graphBuffers (replicate 2048 0) N (replicate 2048 0) (replicate 2048 0)
     (replicate 69632 0) (replicate 69632 0) (replicate 69632 0) (replicate 69632 (pos 0)) (replicate 69632 0)
 
-fresh-long : (N : List ℕ) → 2048 ≤ length N → LongEnough (fresh N)
+fresh-long : (N : List ℕ) → 2048 ≤ length N → HasRoom (fresh N)
 fresh-long N h = record {
   node = room {A = ℕ} 2048 0 (omega arith);
   sorted = h;
@@ -39,9 +39,9 @@ fresh-long N h = record {
   reward = room {A = ℕ} 69632 0 (omega arith);
 }
 
-module _ (read : Sheet) (N : List ℕ) (b : Buffers) (A : Outcome) (z : Answered (stepRead read) (startRead read) (fresh N) b A) where
+module _ (read : Sheet) (N : List ℕ) (b : GraphBuffers) (A : Outcome) (z : ExploreAnswered (stepRead read) (startRead read) (fresh N) b A) where
   abbrev Is : Outcome → Type 0
-  Is = Answered (stepRead read) (startRead read) (fresh N) b
+  Is = ExploreAnswered (stepRead read) (startRead read) (fresh N) b
 
   pub never : A ≡ Malformed → 2048 ≤ length N → ⊥
   never e h = subst Is e z .0 (fresh-long N h)

@@ -1,2 +1,2 @@
-pub mod Lent
-pub mod Hands
+pub mod ContractTerms
+pub mod PrivatePromises

@@ -2,8 +2,8 @@
 ghost use Prim.Native.Nat.{_≤_};
 ghost use lib.ListN.{length};
 ghost use Rattle.contract.specs.Plan.{LongEnough};
-ghost use Rattle.planner.specs.Lent.{lent, answerOf};
-ghost use Rattle.planner.specs.Hands.{Handed, OfSheet, Cyclic, Solved, Settled};
+ghost use Rattle.planner.specs.ContractTerms.{lentBuffers, answerOf};
+ghost use Rattle.planner.specs.PrivatePromises.{Handed, OfSheet, Cyclic, Solved, PlannedButForClearing};
 use crate::Answer;
 use ratio::Verdict;
 
@@ -25,10 +25,10 @@ fn accept(
     steps: &mut [u16],
 ) -> Answer
     requires { ⌜ Cyclic (now from) (now to) (now code) (now order) (now tree) (now cycle) n k ⌝ ∗
-        ⌜ n ≤ length (now least) ⌝ ∗ ⌜ q ≤ 20480000 ⌝ ∗ ⌜ LongEnough (lent (now nodes) (now potentials) (now steps)) ⌝ }
+        ⌜ n ≤ length (now least) ⌝ ∗ ⌜ q ≤ 20480000 ⌝ ∗ ⌜ LongEnough (lentBuffers (now nodes) (now potentials) (now steps)) ⌝ }
     ensures { λ r. ⌜ ((o : Solved (now (from .entry)) (now (to .entry)) (now (code .entry)) (now (order .entry)) (now (least .entry)) (now (cycle .entry)) n k p q
-        (lent (now (nodes .entry)) (now (potentials .entry)) (now (steps .entry))))
-        → Settled (o .of-sheet .bytes) (o .of-sheet .before) (lent (now (nodes .exit)) (now (potentials .exit)) (now (steps .exit))) (answerOf r)) ⌝ }
+        (lentBuffers (now (nodes .entry)) (now (potentials .entry)) (now (steps .entry))))
+        → PlannedButForClearing (o .of-sheet .bytes) (o .of-sheet .before) (lentBuffers (now (nodes .exit)) (now (potentials .exit)) (now (steps .exit))) (answerOf r)) ⌝ }
 {
     let mut arcs = [0usize; 4096];
     let laid = lasso::lasso_of(from, to, tree, n, cycle, k, &mut arcs);
@@ -59,10 +59,10 @@ pub(crate) fn plan_graph(
     steps: &mut [u16],
 ) -> Answer
     requires { ⌜ Handed (now from) (now to) (now code) (now cost) (now reward) (now order) (now tree) n ⌝ ∗
-        ⌜ LongEnough (lent (now nodes) (now potentials) (now steps)) ⌝ }
+        ⌜ LongEnough (lentBuffers (now nodes) (now potentials) (now steps)) ⌝ }
     ensures { λ r. ⌜ ((o : OfSheet (now (from .entry)) (now (to .entry)) (now (code .entry)) (now (cost .entry)) (now (reward .entry)) (now (order .entry)) n
-        (lent (now (nodes .entry)) (now (potentials .entry)) (now (steps .entry))))
-        → Settled (o .bytes) (o .before) (lent (now (nodes .exit)) (now (potentials .exit)) (now (steps .exit))) (answerOf r)) ⌝ }
+        (lentBuffers (now (nodes .entry)) (now (potentials .entry)) (now (steps .entry))))
+        → PlannedButForClearing (o .bytes) (o .before) (lentBuffers (now (nodes .exit)) (now (potentials .exit)) (now (steps .exit))) (answerOf r)) ⌝ }
 {
     let mut least = [0i64; 2048];
     let mut cycle = [0usize; 2048];

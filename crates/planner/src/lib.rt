@@ -1,6 +1,6 @@
 // The plan of a sheet: the least ratio of cost over reward, the reachable nodes with their potentials, and a lasso whose cycle has that ratio.
 ghost use Rattle.contract.specs.Plan.{Planned};
-ghost use Rattle.planner.specs.Lent.{lent, answerOf};
+ghost use Rattle.planner.specs.ContractTerms.{lentBuffers, answerOf};
 
 mod graphs;
 mod output;
@@ -18,8 +18,8 @@ pub struct Answer {
 
 // Questions 1 to 14. The nodes' numbers are written to nodes, rising, their potentials to potentials, and the codes of stem and cycle to steps.
 pub fn plan(sheet: &[u8], nodes: &mut [u32], potentials: &mut [i64], steps: &mut [u16]) -> Answer
-    ensures { λ r. ⌜ Planned (now (sheet .entry)) (lent (now (nodes .entry)) (now (potentials .entry)) (now (steps .entry)))
-        (lent (now (nodes .exit)) (now (potentials .exit)) (now (steps .exit))) (answerOf r) ⌝ }
+    ensures { λ r. ⌜ Planned (now (sheet .entry)) (lentBuffers (now (nodes .entry)) (now (potentials .entry)) (now (steps .entry)))
+        (lentBuffers (now (nodes .exit)) (now (potentials .exit)) (now (steps .exit))) (answerOf r) ⌝ }
 {
     if nodes.len() < 2048 {
         return output::refused(1);

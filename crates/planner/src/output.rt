@@ -4,13 +4,13 @@ ghost use Prim.Native.Nat.{_+_, _≤_};
 ghost use lib.IntN.{pos};
 ghost use lib.ListN.{length, replicate};
 ghost use Rattle.contract.specs.Plan as Contract;
-ghost use Rattle.planner.specs.Lent.{answerOf, accepted};
-ghost use Rattle.planner.specs.Hands.{cleared, Picked, Pickable};
+ghost use Rattle.planner.specs.ContractTerms.{answerOf, accepted};
+ghost use Rattle.planner.specs.PrivatePromises.{cleared, Picked, Pickable};
 use crate::Answer;
 
 // All numbers besides the refusal are 0.
 pub(crate) fn refused(refusal: u8) -> Answer
-    ensures { λ r. ⌜ answerOf r ≡ Contract.refused refusal ⌝ }
+    ensures { λ r. ⌜ answerOf r ≡ Contract.refusedPlan refusal ⌝ }
 {
     Answer {
         refusal,
@@ -78,7 +78,7 @@ pub(crate) fn refuse(
     potentials: &mut [i64],
     steps: &mut [u16],
 ) -> Answer
-    ensures { λ r. ⌜ answerOf r ≡ Contract.refused refusal ⌝ ∗
+    ensures { λ r. ⌜ answerOf r ≡ Contract.refusedPlan refusal ⌝ ∗
         ⌜ now (nodes .exit) ≡ replicate (length (now (nodes .entry))) 0 ⌝ ∗
         ⌜ now (potentials .exit) ≡ replicate (length (now (potentials .entry))) (pos 0) ⌝ ∗
         ⌜ now (steps .exit) ≡ replicate (length (now (steps .entry))) 0 ⌝ }

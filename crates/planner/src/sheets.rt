@@ -1,7 +1,7 @@
 // The plan of a decoded sheet: question 12, and what follows.
 ghost use Rattle.contract.specs.Plan.{LongEnough};
-ghost use Rattle.planner.specs.Lent.{lent, answerOf};
-ghost use Rattle.planner.specs.Hands.{ReadFrom, Settled};
+ghost use Rattle.planner.specs.ContractTerms.{lentBuffers, answerOf};
+ghost use Rattle.planner.specs.PrivatePromises.{ReadFrom, PlannedButForClearing};
 use crate::Answer;
 use explore::Outcome;
 use sheet::Sheet;
@@ -12,9 +12,9 @@ pub(crate) fn plan_read(
     potentials: &mut [i64],
     steps: &mut [u16],
 ) -> Answer
-    requires { ⌜ ReadFrom read ⌝ ∗ ⌜ LongEnough (lent (now nodes) (now potentials) (now steps)) ⌝ }
-    ensures { λ r. ⌜ ((o : ReadFrom read) → Settled (o .bytes) (lent (now (nodes .entry)) (now (potentials .entry)) (now (steps .entry)))
-        (lent (now (nodes .exit)) (now (potentials .exit)) (now (steps .exit))) (answerOf r)) ⌝ }
+    requires { ⌜ ReadFrom read ⌝ ∗ ⌜ LongEnough (lentBuffers (now nodes) (now potentials) (now steps)) ⌝ }
+    ensures { λ r. ⌜ ((o : ReadFrom read) → PlannedButForClearing (o .bytes) (lentBuffers (now (nodes .entry)) (now (potentials .entry)) (now (steps .entry)))
+        (lentBuffers (now (nodes .exit)) (now (potentials .exit)) (now (steps .exit))) (answerOf r)) ⌝ }
 {
     let mut found = [0u32; 2048];
     let mut order = [0u32; 2048];

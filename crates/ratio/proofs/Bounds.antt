@@ -9,19 +9,19 @@ use lib.Seq.{length-take-le, getD-take}
 use Rattle.integers.specs.Lowest.{Gcd, signedAs}
 use Rattle.integers.proofs.Products.{abs-add}
 use Rattle.integers.proofs.Reduction.{lowest, same-ratio, no-larger}
-use Rattle.walks.specs.Walk.{at, atℤ, Walk}
+use Rattle.walks.specs.Walk.{at, atℤ, ArcWalk}
 use Rattle.walks.specs.Weight.{sum, total}
 use Rattle.walks.specs.Form.{Graph}
 use Rattle.walks.proofs.Walks.{walk-arc}
 use Rattle.ratio.specs.Turns.{Reduced, Summed, Ready, InHand}
 
 module _ {F T : List ℕ} {cost : List ℤ} {reward : List ℕ} {n : ℕ} (g : Graph F T cost reward n) where
-  cost-bound : (x : ℕ) (c : List ℕ) (y : ℕ) → Walk F T (length F) x c y → natAbs (sum (atℤ cost) c) ≤ 10000 * length c
+  cost-bound : (x : ℕ) (c : List ℕ) (y : ℕ) → ArcWalk F T (length F) x c y → natAbs (sum (atℤ cost) c) ≤ 10000 * length c
   cost-bound x [] y w = omega arith
   cost-bound x (e ∷ c) y w =
       omega (arith, abs-add (atℤ cost e) (sum (atℤ cost) c), g .arc e (w .0) .cost-small, cost-bound (at T e) c y (w .2))
 
-  reward-bound : (x : ℕ) (c : List ℕ) (y : ℕ) → Walk F T (length F) x c y → total (at reward) c ≤ 10000 * length c
+  reward-bound : (x : ℕ) (c : List ℕ) (y : ℕ) → ArcWalk F T (length F) x c y → total (at reward) c ≤ 10000 * length c
   reward-bound x [] y w = omega arith
   reward-bound x (e ∷ c) y w = omega (arith, g .arc e (w .0) .reward-small, reward-bound (at T e) c y (w .2))
 

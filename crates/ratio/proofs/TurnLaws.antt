@@ -16,7 +16,7 @@ use Rattle.graph.specs.Answer as Search
 use Rattle.graph.specs.declared.Answer.{Answer}
 use Rattle.graph.specs.declared.Answer.the-variants.{Malformed, Cycle, Potentials}
 use Rattle.ratio.specs.Answer.{RatioOf}
-use Rattle.ratio.specs.Turns.{Reduced, Ready, InHand, Cheaper, Settled, Improved, Turned}
+use Rattle.ratio.specs.Turns.{Reduced, Ready, InHand, Cheaper, LeastInHand, Improved, Turned}
 use Rattle.ratio.specs.declared.improve.Turn.{Turn}
 use Rattle.ratio.specs.declared.improve.Turn.the-variants.{Better, Done}
 use Rattle.ratio.proofs.Heights.{height, height-falls, cheaper}
@@ -44,7 +44,7 @@ module _ {F T : List ℕ} {cost : List ℤ} {reward : List ℕ} {n a b : ℕ} (r
     pub q-small : q ≤ 20480000
     q-small = omega (arith, f .q-small, hand-reward (r .formed .graph) h)
 
-    pub formed : (potentials room : ℕ) → n ≤ potentials → n ≤ room → Search.WellFormed F T cost reward (pos q) (negℤ p) (pos 0) n potentials room
+    pub formed : (potentials room : ℕ) → n ≤ potentials → n ≤ room → Search.SearchArguments F T cost reward (pos q) (negℤ p) (pos 0) n potentials room
     formed potentials room hp hr = record {
       graph = r .formed .graph;
       in-range = record {
@@ -71,7 +71,7 @@ module _ {F T : List ℕ} {cost : List ℤ} {reward : List ℕ} {n a b : ℕ} (r
 
     -- none is found: the ratio is the least
     pub settled : {potential potential' : List ℤ} {hand' : List ℕ} → Search.PotentialsFound F T W n potential potential' hand hand'
-        → Settled F T cost reward n potential potential' hand' p q k
+        → LeastInHand F T cost reward n potential potential' hand' p q k
     settled g = record {
       in-hand = same-room (g .kept) h;
       ratio = subst (λ (l : List ℕ). RatioOf cost reward (take k l) p q) (sym (g .kept)) (record { lowest = f .lowest; exact = f .exact });
@@ -84,9 +84,9 @@ module _ {F T : List ℕ} {cost : List ℤ} {reward : List ℕ} {n a b : ℕ} (r
 
     -- by what the search answered
     module _ (potential potential' : List ℤ) (hand' : List ℕ) (hp : n ≤ length potential) (A : Answer)
-        (z : Search.Answered F T cost reward (pos q) (negℤ p) (pos 0) n potential potential' hand hand' A) where
+        (z : Search.SearchAnswered F T cost reward (pos q) (negℤ p) (pos 0) n potential potential' hand hand' A) where
       abbrev Is : Answer → Type 0
-      Is = Search.Answered F T cost reward (pos q) (negℤ p) (pos 0) n potential potential' hand hand'
+      Is = Search.SearchAnswered F T cost reward (pos q) (negℤ p) (pos 0) n potential potential' hand hand'
 
       pub never : {X : Type 0} → A ≡ Malformed → X
       never e = absurd (subst Is e z .0 (formed (length potential) (length hand) hp (h .room)))
@@ -94,7 +94,7 @@ module _ {F T : List ℕ} {cost : List ℤ} {reward : List ℕ} {n a b : ℕ} (r
       pub better : (j : ℕ) → length hand' ≡ length hand → A ≡ Cycle j → Improved F T cost reward n k j potential potential' hand hand'
       better j l e = improved l (subst Is e z .1)
 
-      pub done : A ≡ Potentials → Settled F T cost reward n potential potential' hand' p q k
+      pub done : A ≡ Potentials → LeastInHand F T cost reward n potential potential' hand' p q k
       done e = settled (subst Is e z .1)
 
   -- the height of the cycle in hand falls
@@ -108,15 +108,15 @@ module _ {F T : List ℕ} {cost : List ℤ} {reward : List ℕ} {n a b : ℕ} (r
 
 -- the search at the numbers that the code has
 pub coded : (F T : List ℕ) (cost : List ℤ) (reward : List ℕ) (p : ℤ) (q n : ℕ) (potential potential' : List ℤ) (hand hand' : List ℕ) (A : Answer) {a b : ℤ}
-    → a ≡ pos q → b ≡ negℤ p → Search.Answered F T cost reward a b (pos 0) n potential potential' hand hand' A
-    → Search.Answered F T cost reward (pos q) (negℤ p) (pos 0) n potential potential' hand hand' A
+    → a ≡ pos q → b ≡ negℤ p → Search.SearchAnswered F T cost reward a b (pos 0) n potential potential' hand hand' A
+    → Search.SearchAnswered F T cost reward (pos q) (negℤ p) (pos 0) n potential potential' hand hand' A
 coded F T cost reward p q n potential potential' hand hand' A {a} {b} ea eb z =
-    subst (λ (y : ℤ). Search.Answered F T cost reward (pos q) y (pos 0) n potential potential' hand hand' A) eb
-    (subst (λ (x : ℤ). Search.Answered F T cost reward x b (pos 0) n potential potential' hand hand' A) ea z)
+    subst (λ (y : ℤ). Search.SearchAnswered F T cost reward (pos q) y (pos 0) n potential potential' hand hand' A) eb
+    (subst (λ (x : ℤ). Search.SearchAnswered F T cost reward x b (pos 0) n potential potential' hand hand' A) ea z)
 
 -- what is read back of the numerator
 pub again-settled : {F T : List ℕ} {cost : List ℤ} {reward : List ℕ} {n : ℕ} {potential potential' : List ℤ} {hand : List ℕ} {p : ℤ} {q k : ℕ} → SFits w64 p
-    → Settled F T cost reward n potential potential' hand p q k → Settled F T cost reward n potential potential' hand (toZ w64 (ofZ w64 p)) q k
+    → LeastInHand F T cost reward n potential potential' hand p q k → LeastInHand F T cost reward n potential potential' hand (toZ w64 (ofZ w64 p)) q k
 again-settled {p = p} f h = rw (toZ-ofZ w64 p f) h
 
 pub same-ready : {F T : List ℕ} {cost : List ℤ} {reward : List ℕ} {n a b a' b' : ℕ} → a' ≡ a → b' ≡ b → Ready F T cost reward n a b → Ready F T cost reward n a' b'
@@ -128,5 +128,5 @@ module _ (F T : List ℕ) (cost : List ℤ) (reward : List ℕ) (n k : ℕ) (pot
   pub was-better : (j : ℕ) → t ≡ Better j → Improved F T cost reward n k j potential potential' hand hand'
   was-better j e = subst (Turned F T cost reward n k potential potential' hand hand') e z
 
-  pub was-done : (p : ℤ) (q : ℕ) → t ≡ Done p q → Settled F T cost reward n potential potential' hand' p q k
+  pub was-done : (p : ℤ) (q : ℕ) → t ≡ Done p q → LeastInHand F T cost reward n potential potential' hand' p q k
   was-done p q e = subst (Turned F T cost reward n k potential potential' hand hand') e z

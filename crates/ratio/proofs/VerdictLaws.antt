@@ -12,7 +12,7 @@ use Rattle.graph.specs.declared.Answer.{Answer}
 use Rattle.graph.specs.declared.Answer.the-variants.{Malformed, Cycle, Potentials}
 use Rattle.walks.specs.Cycles.{SimpleCycle, EachEarns, Idle}
 use Rattle.ratio.specs.Answer.{RatioOf, RatioFound}
-use Rattle.ratio.specs.Turns.{InHand, Settled}
+use Rattle.ratio.specs.Turns.{InHand, LeastInHand}
 use Rattle.ratio.proofs.Searches.{simple-of, idle}
 use Rattle.walks.specs.Weight.{weightOf}
 
@@ -22,9 +22,9 @@ room k x h = omega (arith, length-replicate k x)
 
 -- the search at (0, b, -1)
 module _ (F T : List ℕ) (cost : List ℤ) (reward : List ℕ) (n b : ℕ) (hb : b ≤ 2049) (potential potential' : List ℤ) (arcs arcs' : List ℕ)
-    (A : Answer) (z : Search.Answered F T cost reward (pos 0) (pos b) (negsuc 0) n potential potential' arcs arcs' A) where
+    (A : Answer) (z : Search.SearchAnswered F T cost reward (pos 0) (pos b) (negsuc 0) n potential potential' arcs arcs' A) where
   abbrev Is : Answer → Type 0
-  Is = Search.Answered F T cost reward (pos 0) (pos b) (negsuc 0) n potential potential' arcs arcs'
+  Is = Search.SearchAnswered F T cost reward (pos 0) (pos b) (negsuc 0) n potential potential' arcs arcs'
 
   -- malformed arguments are no graph
   pub no-graph : n ≤ length potential → n ≤ length arcs → A ≡ Malformed → Graph F T cost reward n → ⊥
@@ -54,7 +54,7 @@ idle-found {F} {T} {cost} {reward} {arcs' = arcs'} {k = k} g c =
 
 -- the least ratio, with the cycle copied to the front of the lent buffer
 pub ratio-found : {F T : List ℕ} {cost : List ℤ} {reward : List ℕ} {n : ℕ} {potential potential' : List ℤ} {hand cycle cycle' : List ℕ} {p : ℤ} {q k : ℕ}
-    → EachEarns F T (length F) reward → Settled F T cost reward n potential potential' hand p q k → cycle' ≡ take k hand ++ drop k cycle
+    → EachEarns F T (length F) reward → LeastInHand F T cost reward n potential potential' hand p q k → cycle' ≡ take k hand ++ drop k cycle
     → RatioFound F T cost reward n p q k potential potential' cycle cycle'
 ratio-found {F} {T} {cost} {reward} {hand = hand} {cycle = cycle} {cycle' = cycle'} {p = p} {q = q} {k = k} earns s e = record {
   short = s .in-hand .short;

@@ -7,9 +7,9 @@ use lib.IntN.{ℤ, pos, negℤ, natAbs, _*ℤ_}
 use Rattle.integers.specs.Lowest.{Lowest}
 use lib.Signed.{_<ℤ_}
 use Rattle.walks.specs.Walk.{at, atℤ}
-use Rattle.walks.specs.Weight.{weightOf, sum, total, NoneNegative, Potential}
+use Rattle.walks.specs.Weight.{weightOf, sum, total, NoneNegative, PotentialOrMark}
 use Rattle.walks.specs.Cycles.{SimpleCycle, EachEarns}
-use Rattle.ratio.specs.Answer.{WellFormed, RatioOf}
+use Rattle.ratio.specs.Answer.{RatioArguments, RatioOf}
 use Rattle.ratio.specs.declared.improve.Turn.{Turn}
 use Rattle.ratio.specs.declared.improve.Turn.the-variants.{Better, Done}
 
@@ -31,7 +31,7 @@ pub record Summed (cost : List ℤ) (reward arcs : List ℕ) (k : ℕ) : Type 0 
 
 -- the arguments of a turn, where question 14 is answered yes
 pub record Ready (F T : List ℕ) (cost : List ℤ) (reward : List ℕ) (n potentials arcs : ℕ) : Type 0 where
-  pub formed : WellFormed F T cost reward n potentials arcs
+  pub formed : RatioArguments F T cost reward n potentials arcs
   pub earns : EachEarns F T (length F) reward
 
 -- the cycle in hand: the first k entries
@@ -45,13 +45,13 @@ abbrev pub Cheaper : List ℤ → List ℕ → List ℕ → List ℕ → Type 0
 Cheaper cost reward c d = (sum (atℤ cost) c *ℤ pos (total (at reward) d)) <ℤ (sum (atℤ cost) d *ℤ pos (total (at reward) c))
 
 -- the potentials at the ratio p / q of the cycle in hand are written, and there is no cycle below it
-pub record Settled (F T : List ℕ) (cost : List ℤ) (reward : List ℕ) (n : ℕ) (potential potential' : List ℤ) (hand : List ℕ) (p : ℤ) (q k : ℕ) : Type 0 where
+pub record LeastInHand (F T : List ℕ) (cost : List ℤ) (reward : List ℕ) (n : ℕ) (potential potential' : List ℤ) (hand : List ℕ) (p : ℤ) (q k : ℕ) : Type 0 where
   pub in-hand : InHand F T n hand k
   pub ratio : RatioOf cost reward (take k hand) p q
   pub p-small : natAbs p ≤ 20480000
   pub q-small : q ≤ 20480000
   pub none-below : NoneNegative F T (length F) (weightOf (pos q) (negℤ p) (pos 0) cost reward)
-  pub potentials : (v : ℕ) → v < n → Potential F T (length F) (weightOf (pos q) (negℤ p) (pos 0) cost reward) v (atℤ potential' v)
+  pub potentials : (v : ℕ) → v < n → PotentialOrMark F T (length F) (weightOf (pos q) (negℤ p) (pos 0) cost reward) v (atℤ potential' v)
   pub rest : drop n potential' ≡ drop n potential
 
 -- a cheaper cycle is in hand, and no potential is written
@@ -62,4 +62,4 @@ pub record Improved (F T : List ℕ) (cost : List ℤ) (reward : List ℕ) (n k 
 
 abbrev pub Turned : List ℕ → List ℕ → List ℤ → List ℕ → ℕ → ℕ → List ℤ → List ℤ → List ℕ → List ℕ → Turn → Type 0
 Turned F T cost reward n k potential potential' hand hand' (Better j) = Improved F T cost reward n k j potential potential' hand hand'
-Turned F T cost reward n k potential potential' hand hand' (Done p q) = Settled F T cost reward n potential potential' hand' p q k
+Turned F T cost reward n k potential potential' hand hand' (Done p q) = LeastInHand F T cost reward n potential potential' hand' p q k

@@ -1,7 +1,7 @@
 // From a first cycle to one of the least ratio.
 ghost use lib.ListN.{length};
-ghost use Rattle.ratio.specs.Answer.{WellFormed, Judged};
-ghost use Rattle.ratio.specs.Turns.{Ready, InHand, Turned, Settled};
+ghost use Rattle.ratio.specs.Answer.{RatioArguments, RatioAnswered};
+ghost use Rattle.ratio.specs.Turns.{Ready, InHand, Turned, LeastInHand};
 use crate::Verdict;
 use graph::Answer;
 use graph::Coefficients;
@@ -64,7 +64,7 @@ fn settle(
 ) -> Least
     requires { ⌜ Ready (now from) (now to) (now cost) (now reward) nodes (length (now potential)) (length (now hand)) ⌝ }
     requires { ⌜ InHand (now from) (now to) nodes (now hand) k ⌝ }
-    ensures { λ r. ⌜ Settled (now (from .entry)) (now (to .entry)) (now (cost .entry)) (now (reward .entry)) nodes
+    ensures { λ r. ⌜ LeastInHand (now (from .entry)) (now (to .entry)) (now (cost .entry)) (now (reward .entry)) nodes
         (now (potential .entry)) (now (potential .exit)) (now (hand .exit)) (r .p) (r .q) (r .arcs) ⌝ }
 {
     let mut arcs = k;
@@ -93,9 +93,9 @@ pub(crate) fn beyond(
     hand: &mut [usize],
     k: usize,
 ) -> Verdict
-    requires { ⌜ WellFormed (now from) (now to) (now cost) (now reward) nodes (length (now potential)) (length (now cycle)) ⌝ }
+    requires { ⌜ RatioArguments (now from) (now to) (now cost) (now reward) nodes (length (now potential)) (length (now cycle)) ⌝ }
     requires { ⌜ InHand (now from) (now to) nodes (now hand) k ⌝ }
-    ensures { λ r. ⌜ Judged (now (from .entry)) (now (to .entry)) (now (cost .entry)) (now (reward .entry)) nodes
+    ensures { λ r. ⌜ RatioAnswered (now (from .entry)) (now (to .entry)) (now (cost .entry)) (now (reward .entry)) nodes
         (now (potential .entry)) (now (potential .exit)) (now (cycle .entry)) (now (cycle .exit)) r ⌝ }
 {
     let mut unused = [0i64; 2048];

@@ -1,6 +1,6 @@
 // Questions 13 and 14, and the least ratio of cost over reward of a cycle that a walk from node 0 reaches.
 // The arc e leads from from[e] to to[e], costs cost[e] and earns reward[e].
-ghost use Rattle.ratio.specs.Answer.{Judged};
+ghost use Rattle.ratio.specs.Answer.{RatioAnswered};
 use graph::Coefficients;
 
 mod copy;
@@ -27,7 +27,7 @@ pub fn least_ratio(
     potential: &mut [i64],
     cycle: &mut [usize],
 ) -> Verdict
-    ensures { λ r. ⌜ Judged (now (from .entry)) (now (to .entry)) (now (cost .entry)) (now (reward .entry)) nodes
+    ensures { λ r. ⌜ RatioAnswered (now (from .entry)) (now (to .entry)) (now (cost .entry)) (now (reward .entry)) nodes
         (now (potential .entry)) (now (potential .exit)) (now (cycle .entry)) (now (cycle .exit)) r ⌝ }
 {
     if potential.len() < nodes {

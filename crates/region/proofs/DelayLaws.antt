@@ -20,7 +20,7 @@ use Rattle.sheet.specs.declared.Location.{Location}
 use Rattle.nodes.specs.Numbers.{firstLayout, number, nodeOf, stepBy}
 use Rattle.nodes.specs.Decoded.{fewClocks, alone}
 use Rattle.nodes.proofs.Carried.{named}
-use Rattle.region.specs.Answers.{refused, answered}
+use Rattle.region.specs.Answers.{refusedStep, answered}
 use Rattle.region.specs.Arrays.{inArrays, fromArrays, boundsIn, afterRise, afterCarry}
 use Rattle.region.specs.declared.Node.{Node}
 use Rattle.region.specs.declared.Stepped.{Stepped}
@@ -53,10 +53,10 @@ module _ (k : ℕ) (l : Location) (x : ℕ) where
   unit-by true h = sym (ap (λ (b : Bool). answered (Option·map (named (number firstLayout)) (only b (record { to = unitTo u; cost = l .cost; reward = l .reward })))) h)
   unit-by false h = sym (ap (λ (b : Bool). answered (Option·map (named (number firstLayout)) (only b (record { to = unitTo u; cost = l .cost; reward = l .reward })))) h)
 
-  unit-whole : occurs 0 (take (fewClocks k) (inArrays u .region .class)) ≡ true → refused 16 ≡ answered (stepBy firstLayout A x 32)
+  unit-whole : occurs 0 (take (fewClocks k) (inArrays u .region .class)) ≡ true → refusedStep 16 ≡ answered (stepBy firstLayout A x 32)
   unit-whole h = unit-by false (ap (λ (b : Bool). not b && eqb (u .corner) (largestClass u)) (sym same-whole ∙ h))
 
-  unit-early : (u .corner ≡ largest (inArrays u .region .class) → ⊥) → refused 16 ≡ answered (stepBy firstLayout A x 32)
+  unit-early : (u .corner ≡ largest (inArrays u .region .class) → ⊥) → refusedStep 16 ≡ answered (stepBy firstLayout A x 32)
   unit-early n = unit-by false (ap (λ (b : Bool). not (someWhole u) && b) (ne-eqb (u .corner) (largestClass u) (λ q. n (q ∙ sym same-largest)))
       ∙ no-more (not (someWhole u)))
 
@@ -108,7 +108,7 @@ module _ (k : ℕ) (l : Location) (x : ℕ) where
       ∙ move-by false (sym same-whole ∙ h)
 
   move-none : occurs 0 (take (fewClocks k) (inArrays u .region .class)) ≡ false → largest (inArrays u .region .class) ≤ u .corner
-      → refused 16 ≡ answered (stepBy firstLayout A x 33)
+      → refusedStep 16 ≡ answered (stepBy firstLayout A x 33)
   move-none h c = ap (λ (b : Bool). answered (Option·map (named (number firstLayout)) (only (b && inside A (carryTo u)) (free (carryTo u)))))
       (sym (le-ltb (u .corner) (largestClass u) (omega (arith, same-largest))))
       ∙ move-by false (sym same-whole ∙ h)
@@ -128,10 +128,10 @@ module _ (k : ℕ) (l : Location) (x kk : ℕ) (n : Node) (few : kk ≡ fewClock
   top : largest (n .region .class) ≡ largest (inArrays (nodeOf firstLayout (fewClocks k) x) .region .class)
   top = ap (λ (m : Node). largest (m .region .class)) node
 
-  pub some-whole : occurs 0 (take kk (n .region .class)) ≡ true → refused 16 ≡ answered (stepBy firstLayout (alone k blankEdge l) x 32)
+  pub some-whole : occurs 0 (take kk (n .region .class)) ≡ true → refusedStep 16 ≡ answered (stepBy firstLayout (alone k blankEdge l) x 32)
   some-whole h = unit-whole k l x (whole h)
 
-  pub early : (n .corner ≡ largest (n .region .class) → ⊥) → refused 16 ≡ answered (stepBy firstLayout (alone k blankEdge l) x 32)
+  pub early : (n .corner ≡ largest (n .region .class) → ⊥) → refusedStep 16 ≡ answered (stepBy firstLayout (alone k blankEdge l) x 32)
   early d = unit-early k l x (λ q. d (corner ∙ q ∙ sym top))
 
   pub turned : (c : ℤ) → c ≡ l .cost → occurs 0 (take kk (n .region .class)) ≡ false → n .corner ≡ largest (n .region .class)
@@ -158,12 +158,12 @@ module _ (k : ℕ) (l : Location) (x kk : ℕ) (n : Node) (few : kk ≡ fewClock
       (q ∙ ap (afterCarry g) node) ∙ move-carries k l x g (r ∙ top) (whole h) (omega (arith, corner))
 
   pub stays : (g : ℕ) → g ≡ largest (n .region .class) → occurs 0 (take kk (n .region .class)) ≡ false → g ≤ n .corner
-      → refused 16 ≡ answered (stepBy firstLayout (alone k blankEdge l) x 33)
+      → refusedStep 16 ≡ answered (stepBy firstLayout (alone k blankEdge l) x 33)
   stays g r h c = move-none k l x (whole h) (omega (arith, corner, top, r))
 
 -- a free step to a node that lies within the bounds, or does not
 pub free-yes : (b : Bool) (z m : ℕ) → b ≡ true → z ≡ m → _≡_ {A = Stepped} (record { refusal = 0; number = z; cost = pos 0; reward = 0 }) (answered (only b (free m)))
 free-yes b z m h q = (λ i. record { refusal = 0; number = q i; cost = pos 0; reward = 0 }) ∙ sym (ap (λ (t : Bool). answered (only t (free m))) h)
 
-pub free-no : (b : Bool) (m : ℕ) → b ≡ false → refused 16 ≡ answered (only b (free m))
+pub free-no : (b : Bool) (m : ℕ) → b ≡ false → refusedStep 16 ≡ answered (only b (free m))
 free-no b m h = sym (ap (λ (t : Bool). answered (only t (free m))) h)

@@ -19,7 +19,7 @@ use Rattle.sheet.specs.declared.Location.{Location}
 use Rattle.nodes.specs.Numbers.{firstLayout, bitsOf, number, nodeOf, stepBy}
 use Rattle.nodes.specs.Decoded.{fewClocks, boundIn, lowerIn, alone}
 use Rattle.nodes.proofs.Carried.{named}
-use Rattle.region.specs.Answers.{refused, answered}
+use Rattle.region.specs.Answers.{refusedStep, answered}
 use Rattle.region.specs.Arrays.{inArrays, fromArrays, boundsIn, guardsIn, guardHolds, afterEdge}
 use Rattle.region.specs.declared.Node.{Node}
 use Rattle.region.specs.declared.Stepped.{Stepped}
@@ -67,15 +67,15 @@ module _ (k : ℕ) (e : Edge) (l : Location) (x : ℕ) where
   same-landing = ap (λ (n : Node). boundsIn (l .upper) (fewClocks k) (n .region)) arrays ∙ same-inside k e l (edgeTo A u 0) landing
 
   -- the three tests, each where the ones before it passed
-  pub elsewhere : (e .source ≡ bitsOf x 4 20 → ⊥) → refused 16 ≡ answered (stepBy firstLayout A x 0)
+  pub elsewhere : (e .source ≡ bitsOf x 4 20 → ⊥) → refusedStep 16 ≡ answered (stepBy firstLayout A x 0)
   unfolding nodeOf
   elsewhere n = edge-by false (unfold alone in ap (λ (b : Bool). b && (inGuards lowerHolds upperHolds A 0 (intervals (u .region)) && inside A (edgeTo A u 0))) (ne-eqb _ _ n))
 
-  edge-unguarded : guardsIn (e .lower) (e .upper) (fewClocks k) (inArrays u .region) ≡ false → refused 16 ≡ answered (stepBy firstLayout A x 0)
+  edge-unguarded : guardsIn (e .lower) (e .upper) (fewClocks k) (inArrays u .region) ≡ false → refusedStep 16 ≡ answered (stepBy firstLayout A x 0)
   edge-unguarded h = edge-by false (unfold alone in (ap (λ (b : Bool). eqb (e .source) (u .location) && (b && inside A (edgeTo A u 0))) (sym same-guards ∙ h)
       ∙ no-more (eqb (e .source) (u .location))))
 
-  edge-outside : boundsIn (l .upper) (fewClocks k) (next .region) ≡ false → refused 16 ≡ answered (stepBy firstLayout A x 0)
+  edge-outside : boundsIn (l .upper) (fewClocks k) (next .region) ≡ false → refusedStep 16 ≡ answered (stepBy firstLayout A x 0)
   edge-outside h = edge-by false (unfold alone in (ap (λ (b : Bool). eqb (e .source) (u .location) && (inGuards lowerHolds upperHolds A 0 (intervals (u .region)) && b))
       (sym same-landing ∙ h) ∙ ap (λ (b : Bool). eqb (e .source) (u .location) && b) (no-more (inGuards lowerHolds upperHolds A 0 (intervals (u .region))))
       ∙ no-more (eqb (e .source) (u .location))))
@@ -93,14 +93,14 @@ module _ (k : ℕ) (e : Edge) (l : Location) (x kk : ℕ) (n : Node) (few : kk �
   node : n ≡ inArrays (nodeOf firstLayout (fewClocks k) x)
   node = is ∙ ap (λ (m : ℕ). inArrays (nodeOf firstLayout m x)) few
 
-  pub unguarded : guardsIn (e .lower) (e .upper) kk (n .region) ≡ false → refused 16 ≡ answered (stepBy firstLayout (alone k e l) x 0)
+  pub unguarded : guardsIn (e .lower) (e .upper) kk (n .region) ≡ false → refusedStep 16 ≡ answered (stepBy firstLayout (alone k e l) x 0)
   unguarded h = edge-unguarded k e l x (sym (ap₂ (λ (m : ℕ) (n : Node). guardsIn (e .lower) (e .upper) m (n .region)) few node) ∙ h)
 
   module _ (v : Node) (leads : v ≡ afterEdge n (e .target) (e .reset)) where
     led : v ≡ afterEdge (inArrays (nodeOf firstLayout (fewClocks k) x)) (e .target) (e .reset)
     led = leads ∙ ap (λ (m : Node). afterEdge m (e .target) (e .reset)) node
 
-    pub outside : boundsIn (l .upper) kk (v .region) ≡ false → refused 16 ≡ answered (stepBy firstLayout (alone k e l) x 0)
+    pub outside : boundsIn (l .upper) kk (v .region) ≡ false → refusedStep 16 ≡ answered (stepBy firstLayout (alone k e l) x 0)
     outside h = edge-outside k e l x (sym (ap₂ (λ (m : ℕ) (n : Node). boundsIn (l .upper) m (n .region)) few led) ∙ h)
 
     here : bitsOf x 4 20 ≡ nodeOf firstLayout (fewClocks k) x .location

@@ -6,10 +6,10 @@ use Rattle.automaton.specs.Priced.{Priced}
 use Rattle.region.specs.declared.Stepped.{Stepped}
 
 -- "All numbers besides the refusal are 0."
-abbrev pub refused : ℕ → Stepped
-refused r = record { refusal = r; number = 0; cost = pos 0; reward = 0 }
+abbrev pub refusedStep : ℕ → Stepped
+refusedStep r = record { refusal = r; number = 0; cost = pos 0; reward = 0 }
 
 -- 16. "Is the code allowed there?"; "An allowed single step returns 0, the new node's number, the cost and the reward."
 abbrev pub answered : Option (Priced ℕ) → Stepped
-answered none = refused 16
+answered none = refusedStep 16
 answered (some v) = record { refusal = 0; number = v .to; cost = v .cost; reward = v .reward }

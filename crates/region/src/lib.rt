@@ -2,7 +2,7 @@
 ghost use mathlib.Core.Path.{_≡_};
 ghost use Rattle.nodes.specs.Numbers.{bitsOf};
 ghost use Rattle.nodes.specs.Decoded.{fewClocks};
-ghost use Rattle.region.specs.Answers.{refused};
+ghost use Rattle.region.specs.Answers.{refusedStep};
 
 mod bounds;
 pub mod corners;
@@ -32,8 +32,8 @@ pub struct Stepped {
 }
 
 // A refusal, and nothing else.
-pub fn refused(refusal: u8) -> Stepped
-    ensures { λ r. ⌜ r ≡ refused refusal ⌝ }
+pub fn refusedStep(refusal: u8) -> Stepped
+    ensures { λ r. ⌜ r ≡ refusedStep refusal ⌝ }
 {
     Stepped {
         refusal,

@@ -7,7 +7,7 @@ use native.Mathlib.Omega.{arith}
 use lib.Dec.{eqb}
 use lib.ListN.{length}
 use Rattle.sheet.specs.Bytes.{byteAt}
-use Rattle.sheet.specs.Fields.{within}
+use Rattle.sheet.specs.Fields.{isWithin}
 use Rattle.sheet.specs.Records.{locationsIn, clocksIn, edgesIn}
 use Rattle.sheet.specs.Questions.{ask, checkOf, recordsCode}
 use Rattle.sheet.proofs.FieldLaws.{bounds}
@@ -41,23 +41,23 @@ unfolding checkOf
 header s h = record {
   long = bounds (length s) 4 580 (ask-yes 1 sized (ask 3 edition (ask 4 counts records)) h);
   edition = ask-yes 2 edition (ask 4 counts records) after-2;
-  locations = bounds (locationsIn s) 1 12 (left (within (locationsIn s) 1 12) others counted);
-  clocks = bounds (clocksIn s) 1 3 (left (within (clocksIn s) 1 3) (within (edgesIn s) 0 32) clocked);
-  edges = bounds (edgesIn s) 0 32 (right (within (clocksIn s) 1 3) (within (edgesIn s) 0 32) clocked) .1;
+  locations = bounds (locationsIn s) 1 12 (left (isWithin (locationsIn s) 1 12) others counted);
+  clocks = bounds (clocksIn s) 1 3 (left (isWithin (clocksIn s) 1 3) (isWithin (edgesIn s) 0 32) clocked);
+  edges = bounds (edgesIn s) 0 32 (right (isWithin (clocksIn s) 1 3) (isWithin (edgesIn s) 0 32) clocked) .1;
   records = ask-rest 3 counts records after-3;
 }
   where
     sized : Bool
-    sized = within (length s) 4 580
+    sized = isWithin (length s) 4 580
 
     edition : Bool
     edition = eqb (byteAt s 0) 1
 
     others : Bool
-    others = within (clocksIn s) 1 3 && within (edgesIn s) 0 32
+    others = isWithin (clocksIn s) 1 3 && isWithin (edgesIn s) 0 32
 
     counts : Bool
-    counts = within (locationsIn s) 1 12 && others
+    counts = isWithin (locationsIn s) 1 12 && others
 
     records : ℕ
     records = recordsCode (clocksIn s) (locationsIn s) (edgesIn s) s
@@ -72,4 +72,4 @@ header s h = record {
     counted = ask-yes 3 counts records after-3
 
     clocked : others ≡ true
-    clocked = right (within (locationsIn s) 1 12) others counted
+    clocked = right (isWithin (locationsIn s) 1 12) others counted

@@ -8,7 +8,7 @@ use lib.Dec.{eqb}
 use lib.ListN.{length}
 use Rattle.sheet.specs.Bytes.{byteAt}
 use Rattle.sheet.specs.Maps.{bitOf, stands}
-use Rattle.sheet.specs.Fields.{first, within, fieldOf, permittedField, inRange}
+use Rattle.sheet.specs.Fields.{firstEdition, isWithin, fieldOf, permittedField, inRange}
 use Rattle.sheet.specs.Records.{mapBytes, mapOf, fieldPlace, valueAt, recordLength, recordAt, locationAt, locationsIn, clocksIn, edgesIn}
 use Rattle.sheet.specs.Questions.{ask, orElse, each, firstOf, whereThere, bitGood, mapCode, fieldGood, endsCode, locationCode, edgeCode, startCode, recordsCode, checkOf}
 use Rattle.sheet.specs.declared.fields.Kind.{Kind}
@@ -28,7 +28,7 @@ pub bit-clear : (kind : Kind) (k m b : ℕ) → bitOf m b ≡ 0 → bitGood kind
 unfolding bitGood
 bit-clear kind k m b h = simp (eq-eqb _ _ h)
 
-pub bit-is : (kind : Kind) (k m b : ℕ) → (bitOf m b ≡ 0 → ⊥) → bitGood kind k m b ≡ permittedField k (fieldOf first kind b)
+pub bit-is : (kind : Kind) (k m b : ℕ) → (bitOf m b ≡ 0 → ⊥) → bitGood kind k m b ≡ permittedField k (fieldOf firstEdition kind b)
 unfolding bitGood
 bit-is kind k m b h = simp (ne-eqb _ _ h)
 
@@ -55,12 +55,12 @@ module _ (kind : Kind) (k : ℕ) (s : List ℕ) (at : ℕ) where
 
   pub no-field : (b : ℕ) → bitOf (mapOf kind s at) b ≡ 0 → fieldGood kind k s at b ≡ true
   unfolding fieldGood
-  no-field b h = ap (whereThere (inRange k (fieldOf first kind b))) (absent kind s at b h)
+  no-field b h = ap (whereThere (inRange k (fieldOf firstEdition kind b))) (absent kind s at b h)
 
   pub field-is : (b : ℕ) → (bitOf (mapOf kind s at) b ≡ 0 → ⊥)
-      → fieldGood kind k s at b ≡ inRange k (fieldOf first kind b) (valueAt s (fieldPlace kind s at b) b)
+      → fieldGood kind k s at b ≡ inRange k (fieldOf firstEdition kind b) (valueAt s (fieldPlace kind s at b) b)
   unfolding fieldGood
-  field-is b h = ap (whereThere (inRange k (fieldOf first kind b))) (there kind s at b h)
+  field-is b h = ap (whereThere (inRange k (fieldOf firstEdition kind b))) (there kind s at b h)
 
 -- ---- question 9
 
@@ -120,30 +120,30 @@ module _ (k l e : ℕ) (s : List ℕ) where
 -- ---- questions 2 to 4
 
 module _ (s : List ℕ) where
-  pub bad-length : within (length s) 4 580 ≡ false → 2 ≡ checkOf s
+  pub bad-length : isWithin (length s) 4 580 ≡ false → 2 ≡ checkOf s
   unfolding checkOf
   bad-length h = simp h
 
-  module _ (h : within (length s) 4 580 ≡ true) where
+  module _ (h : isWithin (length s) 4 580 ≡ true) where
     pub bad-edition : (byteAt s 0 ≡ 1 → ⊥) → 3 ≡ checkOf s
     unfolding checkOf
     bad-edition i = simp (h, ne-eqb _ _ i)
 
     module _ (i : byteAt s 0 ≡ 1) where
-      pub bad-locations : within (locationsIn s) 1 12 ≡ false → 4 ≡ checkOf s
+      pub bad-locations : isWithin (locationsIn s) 1 12 ≡ false → 4 ≡ checkOf s
       unfolding checkOf
       bad-locations a = simp (h, eq-eqb _ _ i, a)
 
-      module _ (a : within (locationsIn s) 1 12 ≡ true) where
-        pub bad-clocks : within (clocksIn s) 1 3 ≡ false → 4 ≡ checkOf s
+      module _ (a : isWithin (locationsIn s) 1 12 ≡ true) where
+        pub bad-clocks : isWithin (clocksIn s) 1 3 ≡ false → 4 ≡ checkOf s
         unfolding checkOf
         bad-clocks b = simp (h, eq-eqb _ _ i, a, b)
 
-        module _ (b : within (clocksIn s) 1 3 ≡ true) where
-          pub bad-edges : within (edgesIn s) 0 32 ≡ false → 4 ≡ checkOf s
+        module _ (b : isWithin (clocksIn s) 1 3 ≡ true) where
+          pub bad-edges : isWithin (edgesIn s) 0 32 ≡ false → 4 ≡ checkOf s
           unfolding checkOf
           bad-edges c = simp (h, eq-eqb _ _ i, a, b, c)
 
-          pub header-good : within (edgesIn s) 0 32 ≡ true → recordsCode (clocksIn s) (locationsIn s) (edgesIn s) s ≡ checkOf s
+          pub header-good : isWithin (edgesIn s) 0 32 ≡ true → recordsCode (clocksIn s) (locationsIn s) (edgesIn s) s ≡ checkOf s
           unfolding checkOf
           header-good c = simp (h, eq-eqb _ _ i, a, b, c)

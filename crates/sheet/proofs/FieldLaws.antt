@@ -10,7 +10,7 @@ use lib.IntN.{ℤ, pos, negsuc, _-ℤ_}
 use lib.Signed.{ltZ, leZ}
 use mir.Syntax.{w16}
 use mir.Val.{SFits, ofZ}
-use Rattle.sheet.specs.Fields.{within, costInRange, fieldOf, first}
+use Rattle.sheet.specs.Fields.{isWithin, costInRange, fieldOf, firstEdition}
 use Rattle.sheet.specs.declared.fields.Kind.the-variants.{LocationRecord, EdgeRecord}
 use Rattle.sheet.specs.declared.fields.Field.the-variants.{Lower, Upper, Unused}
 
@@ -20,13 +20,13 @@ minus-one (suc n) = ap (λ (x : ℕ). negsuc (suc x)) (zero-add n)
 
 -- ---- a number within bounds
 
-pub too-low : (v low high : ℕ) → v < low → false ≡ within v low high
+pub too-low : (v low high : ℕ) → v < low → false ≡ isWithin v low high
 too-low v low high h = simp (lt-leb _ _ h)
 
-pub not-too-low : (v low high : ℕ) → low ≤ v → leb v high ≡ within v low high
+pub not-too-low : (v low high : ℕ) → low ≤ v → leb v high ≡ isWithin v low high
 not-too-low v low high h = simp (le-leb _ _ h)
 
-pub bounds : (v low high : ℕ) → within v low high ≡ true → (low ≤ v) × (v ≤ high)
+pub bounds : (v low high : ℕ) → isWithin v low high ≡ true → (low ≤ v) × (v ≤ high)
 bounds v low high = by (leb low v) refl
   where
     by : (t : Bool) → leb low v ≡ t → t && leb v high ≡ true → (low ≤ v) × (v ≤ high)
@@ -55,20 +55,20 @@ other-cost (negsuc m) n h = simp (ne-eqb (suc m) 0 (λ e. omega arith), le-leb (
 -- ---- what a bit stands for
 
 module _ (b : ℕ) where
-  pub location-upper : 2 ≤ b → b < 5 → fieldOf first LocationRecord b ≡ Upper (b - 2)
+  pub location-upper : 2 ≤ b → b < 5 → fieldOf firstEdition LocationRecord b ≡ Upper (b - 2)
   unfolding fieldOf
   location-upper h k = simp (ne-eqb b 0 (λ e. omega arith), ne-eqb b 1 (λ e. omega arith), le-leb 2 b h, lt-ltb b 5 k)
 
-  pub location-unused : 5 ≤ b → fieldOf first LocationRecord b ≡ Unused
+  pub location-unused : 5 ≤ b → fieldOf firstEdition LocationRecord b ≡ Unused
   unfolding fieldOf
   location-unused h = simp (ne-eqb b 0 (λ e. omega arith), ne-eqb b 1 (λ e. omega arith), le-leb 2 b (omega arith), le-ltb b 5 h)
 
-  pub edge-lower : 3 ≤ b → b < 6 → fieldOf first EdgeRecord b ≡ Lower (b - 3)
+  pub edge-lower : 3 ≤ b → b < 6 → fieldOf firstEdition EdgeRecord b ≡ Lower (b - 3)
   unfolding fieldOf
   edge-lower h k =
       simp (ne-eqb b 0 (λ e. omega arith), ne-eqb b 1 (λ e. omega arith), ne-eqb b 2 (λ e. omega arith), le-leb 3 b h, lt-ltb b 6 k)
 
-  pub edge-upper : 6 ≤ b → b < 9 → fieldOf first EdgeRecord b ≡ Upper (b - 6)
+  pub edge-upper : 6 ≤ b → b < 9 → fieldOf firstEdition EdgeRecord b ≡ Upper (b - 6)
   unfolding fieldOf
   edge-upper h k = simp (
     ne-eqb b 0 (λ e. omega arith),
@@ -80,7 +80,7 @@ module _ (b : ℕ) where
     lt-ltb b 9 k,
   )
 
-  pub edge-unused : 9 ≤ b → fieldOf first EdgeRecord b ≡ Unused
+  pub edge-unused : 9 ≤ b → fieldOf firstEdition EdgeRecord b ≡ Unused
   unfolding fieldOf
   edge-unused h = simp (
     ne-eqb b 0 (λ e. omega arith),

@@ -7,7 +7,7 @@ use lib.Dec.{eqb}
 use lib.IntN.{pos}
 use lib.ListN.{replicate, set}
 use Rattle.sheet.specs.Bytes.{byteAt, signedOf}
-use Rattle.sheet.specs.Fields.{first}
+use Rattle.sheet.specs.Fields.{firstEdition}
 use Rattle.sheet.specs.Records.{fieldAt, recordAt, locationAt, locationsIn, clocksIn, edgesIn}
 use Rattle.sheet.specs.Questions.{checkOf}
 use Rattle.sheet.specs.declared.fields.Kind.{Kind}
@@ -31,7 +31,7 @@ abbrev pub locationOf : List ℕ → ℕ → Location
 locationOf s at = record {
   cost = signedOf (Option·getD (fieldAt LocationRecord s at 0) 0);
   reward = Option·getD (fieldAt LocationRecord s at 1) 0;
-  upper = clockBytes LocationRecord s at (first .bound) 0;
+  upper = clockBytes LocationRecord s at (firstEdition .bound) 0;
 }
 
 -- "an absent reset mask resets nothing, an absent guard allows all": an absent lower guard is the byte 0, from 0 on, and an absent upper
@@ -43,8 +43,8 @@ edgeOf s at = record {
   cost = signedOf (Option·getD (fieldAt EdgeRecord s at 0) 0);
   reward = Option·getD (fieldAt EdgeRecord s at 1) 0;
   reset = Option·getD (fieldAt EdgeRecord s at 2) 0;
-  lower = clockBytes EdgeRecord s at (first .lower) 0;
-  upper = clockBytes EdgeRecord s at (first .upper) 255;
+  lower = clockBytes EdgeRecord s at (firstEdition .lower) 0;
+  upper = clockBytes EdgeRecord s at (firstEdition .upper) 255;
 }
 
 abbrev pub blankLocation : Location

@@ -17,12 +17,12 @@ pub record Edition : Type 0 where
   pub upper : ℕ
 
 -- "Bits 2 to 4: upper bound of clocks 0 to 2"; "Bits 3 to 5: lower guard of clocks 0 to 2. Bits 6 to 8: upper guard of clocks 0 to 2."
-abbrev pub first : Edition
-first = record { clocks = 3; bound = 2; lower = 3; upper = 6 }
+abbrev pub firstEdition : Edition
+firstEdition = record { clocks = 3; bound = 2; lower = 3; upper = 6 }
 
 -- v is from low to high
-abbrev pub within : ℕ → ℕ → ℕ → Bool
-within v low high = leb low v && leb v high
+abbrev pub isWithin : ℕ → ℕ → ℕ → Bool
+isWithin v low high = leb low v && leb v high
 
 -- bit b is one of the clocks' bits from `from` on
 abbrev pub ofClock : Edition → ℕ → ℕ → Bool
@@ -57,8 +57,8 @@ costInRange z = not (eqb (natAbs z) 0) && leb (natAbs z) 10000
 -- "cost not 0, reward 1 to 10,000, mask 1 to 2^K − 1, upper 0 to 25, lower 1 to 25"
 unfoldable pub inRange : ℕ → Field → ℕ → Bool
 inRange k Cost v = costInRange (signedOf v)
-inRange k Reward v = within v 1 10000
-inRange k Reset v = within v 1 (2 ^ k - 1)
-inRange k (Lower j) v = within v 1 25
-inRange k (Upper j) v = within v 0 25
+inRange k Reward v = isWithin v 1 10000
+inRange k Reset v = isWithin v 1 (2 ^ k - 1)
+inRange k (Lower j) v = isWithin v 1 25
+inRange k (Upper j) v = isWithin v 0 25
 inRange k Unused v = false

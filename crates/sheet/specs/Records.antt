@@ -6,7 +6,7 @@ use Prim.Native.Nat.{ℕ, zero, suc, _+_}
 use lib.Dec.{ltb}
 use Rattle.sheet.specs.Bytes.{byteAt, wordAt}
 use Rattle.sheet.specs.Maps.{stands, placeOf}
-use Rattle.sheet.specs.Fields.{first}
+use Rattle.sheet.specs.Fields.{firstEdition}
 use Rattle.sheet.specs.declared.fields.Kind.{Kind}
 use Rattle.sheet.specs.declared.fields.Kind.the-variants.{LocationRecord, EdgeRecord}
 
@@ -63,4 +63,4 @@ edgeAt s e = recordAt EdgeRecord s (locationAt s (locationsIn s)) e
 
 -- the upper bound of clock j in the location record at `at`; question 7 sees that it stands
 abbrev pub boundAt : List ℕ → ℕ → ℕ → ℕ
-boundAt s at j = Option·getD (fieldAt LocationRecord s at (first .bound + j)) 0
+boundAt s at j = Option·getD (fieldAt LocationRecord s at (firstEdition .bound + j)) 0

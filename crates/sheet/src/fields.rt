@@ -1,7 +1,7 @@
 // What the bits of a record's map stand for, and the values that may stand there.
 ghost use mathlib.Core.Path.{_≡_};
 ghost use Prim.Native.Nat.{_≤_};
-ghost use Rattle.sheet.specs.Fields.{fieldOf, first, permittedField, inRange, costInRange, within};
+ghost use Rattle.sheet.specs.Fields.{fieldOf, firstEdition, permittedField, inRange, costInRange, isWithin};
 
 // The two kinds of record.
 pub enum Kind {
@@ -21,7 +21,7 @@ pub enum Field {
 
 // The field that bit b stands for.
 pub(crate) fn field_of(kind: Kind, b: u32) -> Field
-    ensures { λ r. ⌜ r ≡ fieldOf first kind b ⌝ }
+    ensures { λ r. ⌜ r ≡ fieldOf firstEdition kind b ⌝ }
 {
     match kind {
         Kind::LocationRecord => match b {
@@ -57,7 +57,7 @@ pub(crate) fn permitted(field: Field, clocks: u32) -> bool
 
 // Whether v lies between low and high, both included.
 pub(crate) fn is_within(v: usize, low: usize, high: usize) -> bool
-    ensures { λ r. ⌜ r ≡ within v low high ⌝ }
+    ensures { λ r. ⌜ r ≡ isWithin v low high ⌝ }
 {
     if v < low {
         return false;

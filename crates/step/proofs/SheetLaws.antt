@@ -20,7 +20,7 @@ use Rattle.nodes.proofs.CheckedLaws.{sound, room}
 use Rattle.nodes.proofs.NumberLaws.{node-there}
 use Rattle.nodes.proofs.AgreeLaws.{Agree, numbers-agree, number-steps-agree}
 use Rattle.nodes.proofs.DecodedLaws.{read-refusal, read-agrees, edge-alone-number, delay-alone-number, number-alone}
-use Rattle.region.specs.Answers.{refused, answered}
+use Rattle.region.specs.Answers.{refusedStep, answered}
 use Rattle.region.specs.declared.Stepped.{Stepped}
 use Rattle.step.specs.Step.{answerAt, stepOf, stepIn}
 
@@ -39,11 +39,11 @@ module _ (s : Sheet) (x : ℕ) where
       ∙ ap (λ (b : Bool). b && isNumber firstLayout (alone (s .clocks) blankEdge (locationIn s (bitsOf x 4 20))) x) (lt-ltb _ _ h))
 
   -- an edge that the sheet does not have
-  pub no-edge : (e : ℕ) → e ≤ 31 → s .edges ≤ e → refused 16 ≡ answered (stepBy firstLayout (decodedMeaning s) x e)
+  pub no-edge : (e : ℕ) → e ≤ 31 → s .edges ≤ e → refusedStep 16 ≡ answered (stepBy firstLayout (decodedMeaning s) x e)
   unfolding stepBy step edgeStep decodedMeaning
   no-edge e h l = sym (simp (le-leb e 31 h, le-ltb e (s .edges) l))
 
-  pub no-code : (code : ℕ) → 31 < code → (code ≡ 32 → ⊥) → (code ≡ 33 → ⊥) → refused 16 ≡ answered (stepBy firstLayout (decodedMeaning s) x code)
+  pub no-code : (code : ℕ) → 31 < code → (code ≡ 32 → ⊥) → (code ≡ 33 → ⊥) → refusedStep 16 ≡ answered (stepBy firstLayout (decodedMeaning s) x code)
   unfolding stepBy step
   no-code code h m n = sym (simp (lt-leb code 31 h, ne-eqb code 32 m, ne-eqb code 33 n))
 
@@ -63,11 +63,11 @@ module _ (s : Sheet) (x : ℕ) where
   -- ---- a whole step
 
   module _ (code : ℕ) where
-    pub step-refused : (s .refusal ≡ 0 → ⊥) → refused (s .refusal) ≡ stepIn s x code
+    pub step-refused : (s .refusal ≡ 0 → ⊥) → refusedStep (s .refusal) ≡ stepIn s x code
     unfolding stepIn
     step-refused n = sym (simp (ne-eqb _ _ n))
 
-    pub step-nowhere : s .refusal ≡ 0 → isNumber firstLayout (decodedMeaning s) x ≡ false → refused 15 ≡ stepIn s x code
+    pub step-nowhere : s .refusal ≡ 0 → isNumber firstLayout (decodedMeaning s) x ≡ false → refusedStep 15 ≡ stepIn s x code
     unfolding stepIn answerAt
     step-nowhere z h = sym (simp (eq-eqb _ _ z, h))
 
@@ -82,11 +82,11 @@ answers-agree : (bytes : List ℕ) → checkOf bytes ≡ 0 → (x code : ℕ)
     → answerAt firstLayout (decodedMeaning (readOf bytes)) x code ≡ answerAt firstLayout (meaning bytes) x code
 unfolding answerAt
 answers-agree bytes ok x code = sym (by-bool (isNumber firstLayout (meaning bytes) x)
-    (λ t. ap₂ (λ (b : Bool) (v : Stepped). cond b v (refused 15)) same
+    (λ t. ap₂ (λ (b : Bool) (v : Stepped). cond b v (refusedStep 15)) same
     (ap answered (number-steps-agree firstLayout (meaning bytes) (decodedMeaning (readOf bytes)) agree (sound bytes ok) x code
     (node-there firstLayout (meaning bytes) (room bytes ok) x t))))
-    (λ f. ap (λ (b : Bool). cond b (answered (stepBy firstLayout (meaning bytes) x code)) (refused 15)) f
-    ∙ sym (ap (λ (b : Bool). cond b (answered (stepBy firstLayout (decodedMeaning (readOf bytes)) x code)) (refused 15)) (sym same ∙ f))))
+    (λ f. ap (λ (b : Bool). cond b (answered (stepBy firstLayout (meaning bytes) x code)) (refusedStep 15)) f
+    ∙ sym (ap (λ (b : Bool). cond b (answered (stepBy firstLayout (decodedMeaning (readOf bytes)) x code)) (refusedStep 15)) (sym same ∙ f))))
   where
     agree : Agree (meaning bytes) (decodedMeaning (readOf bytes))
     agree = read-agrees bytes ok
@@ -97,7 +97,7 @@ answers-agree bytes ok x code = sym (by-bool (isNumber firstLayout (meaning byte
 pub read-steps : (bytes : List ℕ) (x code : ℕ) → stepIn (readOf bytes) x code ≡ stepOf bytes x code
 unfolding stepIn stepOf
 read-steps bytes x code = by-bool (eqb (checkOf bytes) 0)
-    (λ t. ap₂ (λ (r : ℕ) (v : Stepped). cond (eqb r 0) v (refused r)) (read-refusal bytes) (answers-agree bytes (eqb-true (checkOf bytes) 0 t) x code))
-    (λ f. ap (λ (r : ℕ). cond (eqb r 0) (answerAt firstLayout (decodedMeaning (readOf bytes)) x code) (refused r)) (read-refusal bytes)
-    ∙ ap (λ (b : Bool). cond b (answerAt firstLayout (decodedMeaning (readOf bytes)) x code) (refused (checkOf bytes))) f
-    ∙ sym (ap (λ (b : Bool). cond b (answerAt firstLayout (meaning bytes) x code) (refused (checkOf bytes))) f))
+    (λ t. ap₂ (λ (r : ℕ) (v : Stepped). cond (eqb r 0) v (refusedStep r)) (read-refusal bytes) (answers-agree bytes (eqb-true (checkOf bytes) 0 t) x code))
+    (λ f. ap (λ (r : ℕ). cond (eqb r 0) (answerAt firstLayout (decodedMeaning (readOf bytes)) x code) (refusedStep r)) (read-refusal bytes)
+    ∙ ap (λ (b : Bool). cond b (answerAt firstLayout (decodedMeaning (readOf bytes)) x code) (refusedStep (checkOf bytes))) f
+    ∙ sym (ap (λ (b : Bool). cond b (answerAt firstLayout (meaning bytes) x code) (refusedStep (checkOf bytes))) f))

@@ -10,14 +10,14 @@ use Rattle.nodes.specs.Numbers.{isNumber, stepBy, startNumber}
 use Rattle.nodes.specs.Meaning.{meaning, layoutOf}
 use Rattle.nodes.proofs.CheckedLaws.{sound, room}
 use Rattle.nodes.proofs.NumberLaws.{reached-is-number}
-use Rattle.region.specs.Answers.{refused, answered}
+use Rattle.region.specs.Answers.{refusedStep, answered}
 use Rattle.step.specs.Step.{answerAt, stepOf}
 
 module _ (s : List ℕ) (ok : checkOf s ≡ 0) (x code : ℕ) where
   pub step-is : isNumber (layoutOf s) (meaning s) x ≡ true → stepOf s x code ≡ answered (stepBy (layoutOf s) (meaning s) x code)
   unfolding stepOf answerAt
-  step-is h = ap (λ (b : Bool). cond b (answerAt (layoutOf s) (meaning s) x code) (refused (checkOf s))) (eq-eqb (checkOf s) 0 ok)
-      ∙ ap (λ (b : Bool). cond b (answered (stepBy (layoutOf s) (meaning s) x code)) (refused 15)) h
+  step-is h = ap (λ (b : Bool). cond b (answerAt (layoutOf s) (meaning s) x code) (refusedStep (checkOf s))) (eq-eqb (checkOf s) 0 ok)
+      ∙ ap (λ (b : Bool). cond b (answered (stepBy (layoutOf s) (meaning s) x code)) (refusedStep 15)) h
 
   pub step-reached : Reachable (stepBy (layoutOf s) (meaning s)) (startNumber (layoutOf s) (meaning s)) x
       → stepOf s x code ≡ answered (stepBy (layoutOf s) (meaning s) x code)

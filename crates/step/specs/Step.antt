@@ -9,17 +9,17 @@ use Rattle.sheet.specs.declared.Sheet.{Sheet}
 use Rattle.nodes.specs.Numbers.{Layout, firstLayout, isNumber, stepBy}
 use Rattle.nodes.specs.Meaning.{meaning, layoutOf}
 use Rattle.nodes.specs.Decoded.{decodedMeaning}
-use Rattle.region.specs.Answers.{refused, answered}
+use Rattle.region.specs.Answers.{refusedStep, answered}
 use Rattle.region.specs.declared.Stepped.{Stepped}
 
 -- "For a single step, after 2 to 11": 15. "Is the number that of a node of this sheet?", and then 16
 unfoldable pub answerAt : Layout → Automaton → ℕ → ℕ → Stepped
-answerAt y A x code = cond (isNumber y A x) (answered (stepBy y A x code)) (refused 15)
+answerAt y A x code = cond (isNumber y A x) (answered (stepBy y A x code)) (refusedStep 15)
 
 -- questions 2 to 11, then 15 and 16
 unfoldable pub stepOf : List ℕ → ℕ → ℕ → Stepped
-stepOf s x code = cond (eqb (checkOf s) 0) (answerAt (layoutOf s) (meaning s) x code) (refused (checkOf s))
+stepOf s x code = cond (eqb (checkOf s) 0) (answerAt (layoutOf s) (meaning s) x code) (refusedStep (checkOf s))
 
 -- the same of a decoded sheet
 unfoldable pub stepIn : Sheet → ℕ → ℕ → Stepped
-stepIn s x code = cond (eqb (s .refusal) 0) (answerAt firstLayout (decodedMeaning s) x code) (refused (s .refusal))
+stepIn s x code = cond (eqb (s .refusal) 0) (answerAt firstLayout (decodedMeaning s) x code) (refusedStep (s .refusal))

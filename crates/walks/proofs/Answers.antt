@@ -9,9 +9,9 @@ use lib.ListN.{length}
 use lib.IntN.{ℤ, pos, _+ℤ_}
 use Rattle.integers.proofs.Parts.{Parts, plus, ext, le-of, lt-of}
 use Rattle.integers.proofs.Pigeonhole.{pigeon}
-use Rattle.walks.specs.Walk.{at, atℤ, Walk}
-use Rattle.walks.specs.Weight.{weightOf, sum, total, NegativeCycle, NoneNegative, LeastWeight, unreached, Potential}
-use Rattle.walks.specs.Form.{Graph, InRange}
+use Rattle.walks.specs.Walk.{at, atℤ, ArcWalk}
+use Rattle.walks.specs.Weight.{weightOf, sum, total, NegativeCycle, NoneNegative, LeastWeight, unreached, PotentialOrMark}
+use Rattle.walks.specs.Form.{Graph, CoefficientsInRange}
 use Rattle.walks.proofs.Walks.{walk-arc, walk-end, sources}
 use Rattle.walks.proofs.Weights.{none-negative}
 use Rattle.walks.proofs.Codes.{code, codes, at-codes, code-parts, code-abs}
@@ -20,7 +20,7 @@ use Rattle.walks.proofs.RoundLaws.{least}
 use Rattle.walks.proofs.Climbs.{Negative}
 use Rattle.walks.proofs.Coded.{coded, parts, arcs}
 
-module _ {F T : List ℕ} {cost : List ℤ} {reward : List ℕ} {a b c : ℤ} {n : ℕ} (g : Graph F T cost reward n) (k : InRange a b c) where
+module _ {F T : List ℕ} {cost : List ℤ} {reward : List ℕ} {a b c : ℤ} {n : ℕ} (g : Graph F T cost reward n) (k : CoefficientsInRange a b c) where
   abbrev weight : ℕ → ℤ
   weight = weightOf a b c cost reward
 
@@ -30,7 +30,7 @@ module _ {F T : List ℕ} {cost : List ℤ} {reward : List ℕ} {a b c : ℤ} {n
   abbrev m : ℕ
   m = length F
 
-  sum-parts : (x : ℕ) (l : List ℕ) (y : ℕ) → Walk F T m x l y → Parts (sum weight l) (total W l) (bias * length l)
+  sum-parts : (x : ℕ) (l : List ℕ) (y : ℕ) → ArcWalk F T m x l y → Parts (sum weight l) (total W l) (bias * length l)
   sum-parts x [] y w = omega arith
   sum-parts x (e ∷ l) y w =
       let p : Parts (weight e +ℤ sum weight l) (W e + total W l) (bias + bias * length l) =
@@ -60,10 +60,10 @@ module _ {F T : List ℕ} {cost : List ℤ} {reward : List ℕ} {a b c : ℤ} {n
       least = λ c w. le-of z (sum weight c) (omega (arith, sum-parts 0 c v w, least F T W m (codes start d) 2048 (arcs g k) o v c w));
     }
 
-    pub potential : (v : ℕ) → v < 2048 → Potential F T m weight v (atℤ d v)
+    pub potential : (v : ℕ) → v < 2048 → PotentialOrMark F T m weight v (atℤ d v)
     potential v h = potential′ (at-codes start d v (omega arith))
       where
-        potential′ : at (codes start d) v ≡ code start (atℤ d v) → Potential F T m weight v (atℤ d v)
+        potential′ : at (codes start d) v ≡ code start (atℤ d v) → PotentialOrMark F T m weight v (atℤ d v)
         potential′ p =
             let q : Parts (atℤ d v) (code start (atℤ d v)) start = code-parts start (atℤ d v) (omega (arith, o .floor v h)) in
             elim (decLt (at (codes start d) v) inf) [

@@ -7,7 +7,7 @@ use Prim.Native.Nat.{ℕ, suc, _+_, _*_, _-_, _≤_, _<_}
 use native.Mathlib.Omega.{arith}
 use lib.ListN.{length, take, set, length-set, replicate, getD-replicate, length-replicate}
 use lib.Seq.{getD-set-same, getD-set-other, slice, slice-cons, slice-empty, length-slice, take-set-lt, drop-set-lt, getD-take, getD-drop}
-use Rattle.walks.specs.Walk.{at, Walk, Distinct}
+use Rattle.walks.specs.Walk.{at, ArcWalk, Distinct}
 use Rattle.walks.specs.Weight.{total}
 use Rattle.walks.proofs.Rounds.{bias, start, inf, most, turn, stamps, Attained, Hangs, zeros}
 use Rattle.walks.proofs.Zeros.{split, zeros-le, zeros-set, zeros-replicate}
@@ -31,7 +31,7 @@ pub record View (F par : List ℕ) (n : ℕ) : Type 0 where
 -- c leads from x to y along parents
 pub record Climb (F T : List ℕ) (W : ℕ → ℕ) (m : ℕ) (D st : List ℕ) (x : ℕ) (c : List ℕ) (y : ℕ) : Type 0 where
   pub some : 0 < length c
-  pub walk : Walk F T m x c y
+  pub walk : ArcWalk F T m x c y
   pub known : at D y < inf
   pub above : stamps * (at D x + total W c) + at st x < stamps * (at D y + bias * length c) + at st y
 
@@ -54,9 +54,9 @@ pub record Marks (mark order : List ℕ) (n x top : ℕ) : Type 0 where
 pub record Negative (F T : List ℕ) (W : ℕ → ℕ) (m : ℕ) (c : List ℕ) : Type 0 where
   pub hub : ℕ
   pub path : List ℕ
-  pub come : Walk F T m 0 path hub
+  pub come : ArcWalk F T m 0 path hub
   pub some : 0 < length c
-  pub walk : Walk F T m hub c hub
+  pub walk : ArcWalk F T m hub c hub
   pub below : total W c < bias * length c
   pub simple : Distinct T c
 
@@ -128,7 +128,7 @@ module _ (F T : List ℕ) (W : ℕ → ℕ) (m : ℕ) (D st mark order : List �
       let h : suc a < t = omega (arith, p .some, length-slice (suc a) t order (omega (arith, o .order-len, l))) in
       rw (one-more t (omega arith) l, rest t h) record {
         some = omega arith;
-        walk = (k .arc, refl, subst (λ (z : ℕ). Walk F T m z (slice (suc a) t order) y) (sym (k .ends)) (p .walk));
+        walk = (k .arc, refl, subst (λ (z : ℕ). ArcWalk F T m z (slice (suc a) t order) y) (sym (k .ends)) (p .walk));
         known = p .known;
         above = omega (arith, k .above, p .above);
       }

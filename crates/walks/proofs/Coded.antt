@@ -9,7 +9,7 @@ use lib.IntN.{ℤ, pos, natAbs}
 use Rattle.integers.proofs.Parts.{Parts, abs-parts}
 use Rattle.walks.specs.Walk.{at, atℤ}
 use Rattle.walks.specs.Weight.{weightOf}
-use Rattle.walks.specs.Form.{Graph, InRange}
+use Rattle.walks.specs.Form.{Graph, CoefficientsInRange}
 use Rattle.walks.proofs.Weights.{all-parts}
 use Rattle.walks.proofs.Codes.{code, codes, code-parts}
 use Rattle.walks.proofs.Rounds.{bias, start, most, Arcs, State, Fine}
@@ -21,7 +21,7 @@ coded a b c cost reward e = code bias (weightOf a b c cost reward e)
 -- the round whose stamps begin above b, after i arcs; d are the potentials. The search has room for 2048 nodes
 pub record Running (F T : List ℕ) (cost : List ℤ) (reward : List ℕ) (a b c : ℤ) (d : List ℤ) (par st : List ℕ) (begin i : ℕ) : Type 0 where
   pub graph : Graph F T cost reward 2048
-  pub in-range : InRange a b c
+  pub in-range : CoefficientsInRange a b c
   pub state : State F T (coded a b c cost reward) (length F) (codes start d) par st begin i 2048
   pub fine : Fine (codes start d) 2048
 
@@ -46,7 +46,7 @@ widen g = record {
   };
 }
 
-module _ {F T : List ℕ} {cost : List ℤ} {reward : List ℕ} {a b c : ℤ} {n : ℕ} (g : Graph F T cost reward n) (k : InRange a b c) where
+module _ {F T : List ℕ} {cost : List ℤ} {reward : List ℕ} {a b c : ℤ} {n : ℕ} (g : Graph F T cost reward n) (k : CoefficientsInRange a b c) where
   pub small : (e : ℕ) → e < length F → natAbs (weightOf a b c cost reward e) ≤ most
   small e h = all-parts a b c (atℤ cost e) (pos (at reward e)) k (g .arc e h .cost-small) (g .arc e h .reward-small)
 

@@ -8,8 +8,8 @@ use native.Mathlib.Decide.{decLt}
 use native.Mathlib.Nat.{le-of-suc-le-suc, not-suc-le-zero}
 use lib.ListN.{length, length-append, List·getD-append}
 use lib.Seq.{getD-append-add}
-use Rattle.walks.specs.Walk.{at, Walk, Distinct}
-pub use Rattle.walks.specs.Lasso.{Lasso, Rising}
+use Rattle.walks.specs.Walk.{at, ArcWalk, Distinct}
+pub use Rattle.walks.specs.Lasso.{ArcLasso, Forward}
 use Rattle.integers.proofs.Pigeonhole.{pigeon}
 use Rattle.walks.proofs.Walks.{walk-append, walk-arc}
 
@@ -57,16 +57,16 @@ distinct-turn F c d s = distinct-append F d c (right-part F c d s) (left-part F 
 
 -- ---- a rising walk
 module _ (F T : List ℕ) (m : ℕ) where
-  rise-end : (x : ℕ) (s : List ℕ) (y : ℕ) → Walk F T m x s y → Rising F T s → x ≤ y
+  rise-end : (x : ℕ) (s : List ℕ) (y : ℕ) → ArcWalk F T m x s y → Forward F T s → x ≤ y
   rise-end x [] y w r = omega arith
   rise-end x (e ∷ s) y w r = omega (arith, rise-end (at T e) s y (w .2) (r .1), w .1, r .0)
 
-  rise-in : (x : ℕ) (s : List ℕ) (y : ℕ) → Walk F T m x s y → Rising F T s → (i : ℕ) → i < length s → (x ≤ at F (at s i)) × (at F (at s i) < y)
+  rise-in : (x : ℕ) (s : List ℕ) (y : ℕ) → ArcWalk F T m x s y → Forward F T s → (i : ℕ) → i < length s → (x ≤ at F (at s i)) × (at F (at s i) < y)
   rise-in x [] y w r i h = absurd (not-suc-le-zero h)
   rise-in x (e ∷ s) y w r zero h = omega (arith, w .1, r .0, rise-end (at T e) s y (w .2) (r .1))
   rise-in x (e ∷ s) y w r (suc i) h = omega (arith, w .1, r .0, rise-in (at T e) s y (w .2) (r .1) i (le-of-suc-le-suc h))
 
-  rise-distinct : (x : ℕ) (s : List ℕ) (y : ℕ) → Walk F T m x s y → Rising F T s → Distinct F s
+  rise-distinct : (x : ℕ) (s : List ℕ) (y : ℕ) → ArcWalk F T m x s y → Forward F T s → Distinct F s
   rise-distinct x [] y w r i j hi hj e = absurd (not-suc-le-zero hi)
   rise-distinct x (a ∷ s) y w r zero zero hi hj e = refl
   rise-distinct x (a ∷ s) y w r zero (suc j) hi hj e =
@@ -77,8 +77,8 @@ module _ (F T : List ℕ) (m : ℕ) where
       ap suc (rise-distinct (at T a) s y (w .2) (r .1) i j (le-of-suc-le-suc hi) (le-of-suc-le-suc hj) e)
 
   -- a rising stem to the first of a cycle's nodes, and the cycle, turned so that it begins there: p and q are its parts
-  pub lasso : (s p q : List ℕ) (x h : ℕ) → Walk F T m 0 s h → Rising F T s → Walk F T m x p h → Walk F T m h q x → 0 < length q
-      → Distinct F (p ++ q) → ((i : ℕ) → i < length (q ++ p) → h ≤ at F (at (q ++ p) i)) → Lasso F T m s (q ++ p)
+  pub lasso : (s p q : List ℕ) (x h : ℕ) → ArcWalk F T m 0 s h → Forward F T s → ArcWalk F T m x p h → ArcWalk F T m h q x → 0 < length q
+      → Distinct F (p ++ q) → ((i : ℕ) → i < length (q ++ p) → h ≤ at F (at (q ++ p) i)) → ArcLasso F T m s (q ++ p)
   lasso s p q x h stem rise wp wq some dis first = record {
     hub = h;
     stem = stem;
@@ -89,8 +89,8 @@ module _ (F T : List ℕ) (m : ℕ) where
   }
 
 -- ---- stem and cycle together
-module _ (F T : List ℕ) (m : ℕ) (s c : List ℕ) (o : Lasso F T m s c) where
-  pub lasso-walk : Walk F T m 0 (s ++ c) (o .hub)
+module _ (F T : List ℕ) (m : ℕ) (s c : List ℕ) (o : ArcLasso F T m s c) where
+  pub lasso-walk : ArcWalk F T m 0 (s ++ c) (o .hub)
   lasso-walk = walk-append F T m 0 s (o .hub) c (o .hub) (o .stem) (o .cycle)
 
   pub lasso-arc : (i : ℕ) → i < length s + length c → at (s ++ c) i < m

@@ -7,7 +7,7 @@ use Prim.Native.Nat.{ℕ, _+_, _*_, _≤_, _<_}
 use native.Mathlib.Omega.{arith}
 use lib.ListN.{length, set, length-set, replicate, getD-replicate, length-replicate}
 use lib.Seq.{getD-set-same, getD-set-other}
-use Rattle.walks.specs.Walk.{at, Walk}
+use Rattle.walks.specs.Walk.{at, ArcWalk}
 use Rattle.walks.specs.Weight.{total}
 use Rattle.walks.proofs.Rounds.{bias, start, inf, most, deep, turn, Arcs, Attained, Least, zeros, State, Fine, Relaxed, Turn, Ended}
 use Rattle.walks.proofs.Zeros.{split, zeros-replicate}
@@ -15,7 +15,7 @@ use Rattle.walks.proofs.Zeros.{split, zeros-replicate}
 -- ---- least potentials
 module _ (F T : List ℕ) (W : ℕ → ℕ) (m : ℕ) (D : List ℕ) (n : ℕ) (g : Arcs F T W m n) (l : Least F T W m D n) where
   -- along a walk no potential falls by more than the walk weighs, and each node is reached
-  along : (x : ℕ) (c : List ℕ) (y : ℕ) → Walk F T m x c y → at D x < inf → (at D y < inf) × (at D y + bias * length c ≤ at D x + total W c)
+  along : (x : ℕ) (c : List ℕ) (y : ℕ) → ArcWalk F T m x c y → at D x < inf → (at D y < inf) × (at D y + bias * length c ≤ at D x + total W c)
   along x [] y w h = let e : at D x ≡ at D y = ap (λ (k : ℕ). at D k) w in omega arith
   along x (e ∷ c) y w h =
       let s : at D (at F e) ≡ at D x = ap (λ (k : ℕ). at D k) (w .1) in
@@ -25,11 +25,11 @@ module _ (F T : List ℕ) (W : ℕ → ℕ) (m : ℕ) (D : List ℕ) (n : ℕ) (
       omega arith
 
   -- no cycle that some walk from node 0 meets has negative weight
-  pub no-negative : (x : ℕ) (p c : List ℕ) → Walk F T m 0 p x → Walk F T m x c x → bias * length c ≤ total W c
+  pub no-negative : (x : ℕ) (p c : List ℕ) → ArcWalk F T m 0 p x → ArcWalk F T m x c x → bias * length c ≤ total W c
   no-negative x p c u w = omega (arith, along x c x w (along 0 p x u (omega (arith, l .first)) .0))
 
   -- each potential is at most the weight of each walk, and by `reached` the weight of one: the least
-  pub least : (v : ℕ) (c : List ℕ) → Walk F T m 0 c v → (at D v < inf) × (at D v + bias * length c ≤ start + total W c)
+  pub least : (v : ℕ) (c : List ℕ) → ArcWalk F T m 0 c v → (at D v < inf) × (at D v + bias * length c ≤ start + total W c)
   least v c w = omega (arith, along 0 c v w (omega (arith, l .first)), l .first)
 
 -- ---- the rounds begin

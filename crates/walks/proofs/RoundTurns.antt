@@ -8,7 +8,7 @@ use native.Mathlib.Omega.{arith}
 use lib.ListN.{length, set, replicate}
 use lib.IntN.{ℤ, pos}
 use Rattle.walks.specs.Walk.{at}
-use Rattle.walks.specs.Form.{Graph, InRange}
+use Rattle.walks.specs.Form.{Graph, CoefficientsInRange}
 use Rattle.walks.proofs.Codes.{codes, length-codes, set-codes, codes-replicate}
 use Rattle.walks.proofs.Signed.{Low}
 use Rattle.walks.proofs.Rounds.{start, inf, most, turn, Arcs, Least, State, Fine, Relaxed, Turn, Ended}
@@ -41,7 +41,7 @@ module _ {F T : List ℕ} {W : ℕ → ℕ} {m n b : ℕ} where
 
 -- ---- the round has come to an end
 module _ {F T : List ℕ} {cost : List ℤ} {reward : List ℕ} {a b c : ℤ} {D par st : List ℕ} {begun v : ℕ}
-    (g : Graph F T cost reward 2048) (k : InRange a b c) (y : Ended F T (coded a b c cost reward) (length F) D par st begun 2048 v) where
+    (g : Graph F T cost reward 2048) (k : CoefficientsInRange a b c) (y : Ended F T (coded a b c cost reward) (length F) D par st begun 2048 v) where
   abbrev pub view : View F par 2048
   view = record {
     T = T;
@@ -90,7 +90,7 @@ begin-code n = set-codes start (replicate n (pos 1152921504606846976)) 0 (pos 0)
     ∙ ap (λ (l : List ℕ). set l 0 start) (codes-replicate start n (pos 1152921504606846976))
 
 -- n is 2048, and a variable here so that the lists stay short
-pub first-round : (F T : List ℕ) (cost : List ℤ) (reward : List ℕ) (a b c : ℤ) (n : ℕ) → n ≡ 2048 → Graph F T cost reward 2048 → InRange a b c
+pub first-round : (F T : List ℕ) (cost : List ℤ) (reward : List ℕ) (a b c : ℤ) (n : ℕ) → n ≡ 2048 → Graph F T cost reward 2048 → CoefficientsInRange a b c
     → Running F T cost reward a b c (set (replicate n (pos 1152921504606846976)) 0 (pos 0)) (replicate n 0) (set (replicate n 0) 0 turn) turn 0
 first-round F T cost reward a b c n e g k = record {
   graph = g;

@@ -7,7 +7,7 @@ use mathlib.Core.List.{List, [], _∷_}
 use mathlib.Core.Bool.{Bool, true, false}
 use Prim.Native.Nat.{ℕ, zero, suc, _+_, _*_, _-_, _≤_, _<_}
 use lib.ListN.{length}
-use Rattle.walks.specs.Walk.{at, Walk}
+use Rattle.walks.specs.Walk.{at, ArcWalk}
 use Rattle.walks.specs.Weight.{total}
 
 abbrev pub bias : ℕ
@@ -50,7 +50,7 @@ pub record Arcs (F T : List ℕ) (W : ℕ → ℕ) (m n : ℕ) : Type 0 where
 -- d stands for the weight of a walk from node 0 to v
 pub record Attained (F T : List ℕ) (W : ℕ → ℕ) (m d v : ℕ) : Type 0 where
   pub path : List ℕ
-  pub walk : Walk F T m 0 path v
+  pub walk : ArcWalk F T m 0 path v
   pub weighs : d + bias * length path ≡ start + total W path
 
 -- no arc leads below a potential, each is the weight of a walk, and lies strictly between −10^15 and 10^15

@@ -5,7 +5,7 @@ use Prim.Native.Nat.{ℕ, zero, suc, _+_, _-_, _≤_, _<_}
 use native.Mathlib.Omega.{arith}
 use lib.ListN.{length, take, drop, take-append-drop, set, length-set}
 use lib.Seq.{take-take, drop-drop, take-nil, slice, slice-empty, slice-cons, getD-set-same, take-set-lt, drop-set-lt}
-use Rattle.walks.specs.Walk.{at, Walk}
+use Rattle.walks.specs.Walk.{at, ArcWalk}
 pub use Rattle.walks.specs.Lasso.{Tree, Stem}
 
 pub stem-none : (F T : List ℕ) (m h : ℕ) (l : List ℕ) → Stem F T m h (slice (length l) (length l) l) h
@@ -27,7 +27,7 @@ stem-more F tree n x a h l g hn hx ha s =
       walk = (
         g .arc x hn hx,
         refl,
-        subst (λ (k : ℕ). Walk F (g .T) (g .m) k (slice (suc a) (length l) l) h) (sym (g .ends x hn hx)) (s .walk),
+        subst (λ (k : ℕ). ArcWalk F (g .T) (g .m) k (slice (suc a) (length l) l) h) (sym (g .ends x hn hx)) (s .walk),
       );
       rising = (omega (arith, g .ends x hn hx, g .earlier x hn hx), s .rising);
     }

@@ -10,9 +10,9 @@ use lib.IntN.{ℤ, pos, natAbs, _+ℤ_, _*ℤ_, *ℤ-zero, zero-*ℤ, +ℤ-assoc
 use lib.Signed.{_≤ℤ_}
 use Rattle.integers.proofs.Parts.{ext, le-of, le-parts, add-parts}
 use Rattle.integers.proofs.Products.{abs-add, abs-mul, mul-sum, times-suc}
-use Rattle.walks.specs.Walk.{at, atℤ, Walk, Reached}
-use Rattle.walks.specs.Weight.{weightOf, sum, total, NoneNegative, LeastWeight, Potential}
-use Rattle.walks.specs.Form.{InRange}
+use Rattle.walks.specs.Walk.{at, atℤ, ArcWalk, Reached}
+use Rattle.walks.specs.Weight.{weightOf, sum, total, NoneNegative, LeastWeight, PotentialOrMark}
+use Rattle.walks.specs.Form.{CoefficientsInRange}
 use Rattle.walks.proofs.Walks.{walk-append}
 
 pub sum-append : (weight : ℕ → ℤ) (p c : List ℕ) → sum weight (p ++ c) ≡ sum weight p +ℤ sum weight c
@@ -59,7 +59,7 @@ module _ (a b c : ℤ) (cost : List ℤ) (reward : List ℕ) where
 mul-small : (x y : ℤ) (m n : ℕ) → natAbs x ≤ m → natAbs y ≤ n → natAbs (x *ℤ y) ≤ m * n
 mul-small x y m n h k = rw (abs-mul x y) (mul-le-mul h k)
 
-module _ (a b c x y : ℤ) (k : InRange a b c) (hx : natAbs x ≤ 10000) (hy : natAbs y ≤ 10000) where
+module _ (a b c x y : ℤ) (k : CoefficientsInRange a b c) (hx : natAbs x ≤ 10000) (hy : natAbs y ≤ 10000) where
   pub cost-part : natAbs (a *ℤ x) ≤ 204800000000
   cost-part = mul-small a x 20480000 10000 (k .a-small) hx
 
@@ -74,16 +74,16 @@ module _ (a b c x y : ℤ) (k : InRange a b c) (hx : natAbs x ≤ 10000) (hy : n
 
 -- ---- where there are potentials, no cycle that a walk from node 0 reaches has negative weight
 module _ (F T : List ℕ) (m : ℕ) (weight : ℕ → ℤ) where
-  pub least-cycle : (x : ℕ) (z : ℤ) → LeastWeight F T m weight x z → (c : List ℕ) → Walk F T m x c x → pos 0 ≤ℤ sum weight c
+  pub least-cycle : (x : ℕ) (z : ℤ) → LeastWeight F T m weight x z → (c : List ℕ) → ArcWalk F T m x c x → pos 0 ≤ℤ sum weight c
   least-cycle x z s c w =
       let l : z ≤ℤ sum weight (s .path ++ c) = s .least (s .path ++ c) (walk-append F T m 0 (s .path) x c x (s .walk) w) in
       let q : sum weight (s .path ++ c) ≡ z +ℤ sum weight c = sum-append weight (s .path) c ∙ ap (λ (k : ℤ). k +ℤ sum weight c) (s .weighs) in
       le-of (pos 0) (sum weight c) (omega (arith, add-parts z (sum weight c), le-parts z (z +ℤ sum weight c) (rw q at l)))
 
   -- the potential of a node that is reached
-  pub least-of : (v : ℕ) (z : ℤ) → Potential F T m weight v z → Reached F T m v → LeastWeight F T m weight v z × (natAbs z < 1000000000000000)
+  pub least-of : (v : ℕ) (z : ℤ) → PotentialOrMark F T m weight v z → Reached F T m v → LeastWeight F T m weight v z × (natAbs z < 1000000000000000)
   least-of v z p r = ⊎-elim (λ q. absurd (q .1 r)) (λ q. q) p
 
-  pub none-negative : (n : ℕ) (D : ℕ → ℤ) → ((x : ℕ) → Reached F T m x → x < n) → ((v : ℕ) → v < n → Potential F T m weight v (D v))
+  pub none-negative : (n : ℕ) (D : ℕ → ℤ) → ((x : ℕ) → Reached F T m x → x < n) → ((v : ℕ) → v < n → PotentialOrMark F T m weight v (D v))
       → NoneNegative F T m weight
   none-negative n D inside p x c r k = least-cycle x (D x) (least-of x (D x) (p x (inside x r)) r .0) c (k .walk)

@@ -24,7 +24,7 @@ pub record Graph (F T : List ℕ) (cost : List ℤ) (reward : List ℕ) (n : ℕ
   pub arc : (e : ℕ) → e < length F → Arc F T cost reward n e
 
 -- the coefficients of the cost, of the reward and of the arc itself are in range
-pub record InRange (a b c : ℤ) : Type 0 where
+pub record CoefficientsInRange (a b c : ℤ) : Type 0 where
   pub a-small : natAbs a ≤ 20480000
   pub b-small : natAbs b ≤ 20480001
   pub c-small : natAbs c ≤ 1

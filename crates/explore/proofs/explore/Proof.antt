@@ -3,15 +3,15 @@ use mathlib.Core.Bool.{true}
 use mathlib.Core.Path.{_≡_, refl, sym, _∙_}
 use denote.Ref.{now}
 use borrow.Author.Tests.{not-true, not-false}
-use Rattle.explore.specs.Buffers.{Buffers, buffers}
+use Rattle.explore.specs.Buffers.{GraphBuffers, graphBuffers}
 use Rattle.explore.proofs.LengthLaws.{fits, long-of, not-long}
 use Rattle.explore.proofs.explore.Statement.{statement}
 use Rattle.explore.proofs.explore.Tie as tie
 
 -- the buffers at entry
-abbrev entry : tie.Start → Buffers
+abbrev entry : tie.Start → GraphBuffers
 entry s =
-    buffers (now (s .args .nodes)) (now (s .args .sorted)) (now (s .args .order)) (now (s .args .tree)) (now (s .args .from)) (now (s .args .to))
+    graphBuffers (now (s .args .nodes)) (now (s .args .sorted)) (now (s .args .order)) (now (s .args .tree)) (now (s .args .from)) (now (s .args .to))
     (now (s .args .code)) (now (s .args .cost)) (now (s .args .reward))
 
 -- after the search

@@ -4,7 +4,7 @@ use native.Mathlib.Omega.{arith}
 use borrow.Author.Needs.{sfits-of}
 use denote.Ref.{now}
 use lib.ListN.{length-set}
-use Rattle.planner.specs.Lent.{answerOf}
+use Rattle.planner.specs.ContractTerms.{answerOf}
 use Rattle.exports.specs.Told.{too-short, planned}
 use Rattle.exports.proofs.OutLaws.{passed, front-5}
 use borrow.Author.Needs.{needs}

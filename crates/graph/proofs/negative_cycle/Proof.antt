@@ -4,7 +4,7 @@ use native.Mathlib.Omega.{arith}
 use borrow.Author.Tests.{not-true, not-false}
 use denote.Ref.{now}
 use lib.ListN.{length}
-use Rattle.graph.specs.Answer.{WellFormed}
+use Rattle.graph.specs.Answer.{SearchArguments}
 use Rattle.graph.proofs.negative_cycle.Statement.{statement}
 use Rattle.graph.proofs.negative_cycle.Tie as tie
 
@@ -16,7 +16,7 @@ abbrev M : tie.After-search → tie.After-well-formed
 M c = c .before .before .before .before
 
 Formed : (c : tie.After-search) → let s = S (M c) in
-    WellFormed (now (s .args .from)) (now (s .args .to)) (now (s .args .cost)) (now (s .args .reward)) (s .args .k .a) (s .args .k .b) (s .args .k .c)
+    SearchArguments (now (s .args .from)) (now (s .args .to)) (now (s .args .cost)) (now (s .args .reward)) (s .args .k .a) (s .args .k .b) (s .args .k .c)
     (s .args .nodes) (length (now (s .args .potential))) (length (now (s .args .cycle)))
 Formed c = M c .well-formed .ensures .yes (not-false _ (c .before .before .before .if1 .left))
 

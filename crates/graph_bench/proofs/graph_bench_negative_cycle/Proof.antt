@@ -10,23 +10,23 @@ use mir.Syntax.{w64}
 use mir.Val.{SFits}
 use mir.Facts.{toZ-ofZ}
 use Rattle.walks.proofs.Tests.{again}
-use Rattle.graph.specs.Answer.{Answered}
+use Rattle.graph.specs.Answer.{SearchAnswered}
 use Rattle.graph.specs.declared.Answer.{Answer}
 use Rattle.graph.specs.declared.Answer.the-variants.{Cycle}
-use Rattle.graph_bench.specs.Number.{answerOf}
+use Rattle.graph_bench.specs.Number.{searchAnswer}
 use Rattle.graph_bench.proofs.graph_bench_negative_cycle.Statement.{statement}
 use Rattle.graph_bench.proofs.graph_bench_negative_cycle.Tie as tie
 
 -- the coefficients, passed on, and the answer, known
 known : (F T : List ℕ) (cost : List ℤ) (reward : List ℕ) (a b c : ℤ) (n : ℕ) (p p' : List ℤ) (q q' : List ℕ) (x y : Answer)
     → SFits w64 a → SFits w64 b → SFits w64 c → x ≡ y
-    → Answered F T cost reward (again a) (again b) (again c) n p p' q q' x → Answered F T cost reward a b c n p p' q q' y
+    → SearchAnswered F T cost reward (again a) (again b) (again c) n p p' q q' x → SearchAnswered F T cost reward a b c n p p' q q' y
 known F T cost reward a b c n p p' q q' x y ha hb hc e h =
-    subst (λ (z : Answer). Answered F T cost reward a b c n p p' q q' z) e (simp toZ-ofZ at h)
+    subst (λ (z : Answer). SearchAnswered F T cost reward a b c n p p' q q' z) e (simp toZ-ofZ at h)
 
 -- a cycle's number of arcs stands for it
 cycled : (F T : List ℕ) (cost : List ℤ) (reward : List ℕ) (a b c : ℤ) (n : ℕ) (p p' : List ℤ) (q q' : List ℕ) (k : ℕ)
-    → Answered F T cost reward a b c n p p' q q' (Cycle k) → Answered F T cost reward a b c n p p' q q' (answerOf k)
+    → SearchAnswered F T cost reward a b c n p p' q q' (Cycle k) → SearchAnswered F T cost reward a b c n p p' q q' (searchAnswer k)
 cycled F T cost reward a b c n p p' q q' zero h = absurd (omega (arith, h .1 .negative .cycle .some))
 cycled F T cost reward a b c n p p' q q' (suc k) h =
     rw (ne-eqb (suc k) 0 (λ e. omega arith), ne-eqb (suc k) 2049 (λ e. omega (arith, h .0 .graph .nodes, h .1 .short))) h

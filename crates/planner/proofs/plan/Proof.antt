@@ -7,8 +7,8 @@ use Rattle.sheet.specs.Questions.{checkOf}
 use Rattle.nodes.proofs.DecodedLaws.{read-refusal}
 use Rattle.contract.specs.Plan.{Buffers, SameLengths}
 use Rattle.contract.proofs.Exits.{short-buffer, faulty-sheet}
-use Rattle.planner.specs.Lent.{lent, answerOf}
-use Rattle.planner.specs.Hands.{Settled}
+use Rattle.planner.specs.ContractTerms.{lentBuffers, answerOf}
+use Rattle.planner.specs.PrivatePromises.{PlannedButForClearing}
 use Rattle.planner.proofs.GraphLaws.{refused-planned}
 use borrow.Author.Needs.{needs}
 use Rattle.planner.proofs.plan.Statement.{statement}
@@ -20,7 +20,7 @@ S c = c .before .before .before .before .before .before .before
 
 -- the buffers lent to this function
 abbrev before : tie.Start → Buffers
-before s = lent (now (s .args .nodes)) (now (s .args .potentials)) (now (s .args .steps))
+before s = lentBuffers (now (s .args .nodes)) (now (s .args .potentials)) (now (s .args .steps))
 
 refusal : (c : tie.After-read) → c .read .result .refusal ≡ checkOf (now (S c .args .sheet))
 refusal c = ap (λ (x : Sheet). x .refusal) (c .read .ensures) ∙ read-refusal (now (S c .args .sheet))
@@ -30,12 +30,12 @@ abbrev R : tie.After-plan-read → tie.After-read
 R c = c .before .before .before .before .before
 
 abbrev after : tie.After-plan-read → Buffers
-after c = let l = c .plan-read .last .1 in lent (l .0) (l .1 .0) (l .1 .1 .0)
+after c = let l = c .plan-read .last .1 in lentBuffers (l .0) (l .1 .0) (l .1 .1 .0)
 
 same : (c : tie.After-plan-read) → SameLengths (after c) (before (S (R c)))
 same c = let k = c .plan-read .kept .1 in record { nodes = k .0; potentials = k .1 .0; steps = k .1 .1 .0 }
 
-settled : (c : tie.After-plan-read) → Settled (now (S (R c) .args .sheet)) (before (S (R c))) (after c) (answerOf (c .plan-read .result))
+settled : (c : tie.After-plan-read) → PlannedButForClearing (now (S (R c) .args .sheet)) (before (S (R c))) (after c) (answerOf (c .plan-read .result))
 settled c = c .plan-read .ensures (record { bytes = now (S (R c) .args .sheet); checked = omega (arith, refusal (R c)); is = R c .read .ensures })
 
 refused-requires : tie.Need-refused-requires

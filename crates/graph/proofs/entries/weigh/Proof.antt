@@ -6,7 +6,7 @@ use lib.IntN.{ℤ, natAbs, _+ℤ_, _*ℤ_}
 use mir.Syntax.{w64}
 use mir.Val.{SFits}
 use Rattle.integers.proofs.Machine.{carry, back, small}
-use Rattle.walks.specs.Form.{InRange}
+use Rattle.walks.specs.Form.{CoefficientsInRange}
 use Rattle.walks.proofs.Tests.{again}
 use Rattle.walks.proofs.Weights.{cost-part, reward-part, both-parts, all-parts}
 use Rattle.graph.proofs.entries.weigh.Statement.{statement}
@@ -16,7 +16,7 @@ use Rattle.graph.proofs.entries.weigh.Tie as tie
 fit : (z : ℤ) → natAbs z ≤ 409600010001 → SFits w64 z
 fit z h = small z 409600010002 (omega arith) (omega arith)
 
-module _ (a b c x y : ℤ) (k : InRange a b c) (hx : natAbs x ≤ 10000) (hy : natAbs y ≤ 10000) where
+module _ (a b c x y : ℤ) (k : CoefficientsInRange a b c) (hx : natAbs x ≤ 10000) (hy : natAbs y ≤ 10000) where
   fit-cost : SFits w64 (a *ℤ x)
   fit-cost = fit _ (omega (arith, cost-part a b c x y k hx hy))
 

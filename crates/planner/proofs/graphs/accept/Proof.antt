@@ -10,7 +10,7 @@ use mir.Syntax.{w64}
 use mir.ValLaws.{toZ-ofZ}
 use Rattle.lasso.specs.Answer.{LaidOut}
 use Rattle.contract.specs.Plan.{Answer}
-use Rattle.planner.specs.Lent.{accepted}
+use Rattle.planner.specs.ContractTerms.{accepted}
 use Rattle.planner.proofs.AcceptLaws.{accepted-planned}
 use Rattle.planner.proofs.GraphLaws.{settled-accepted}
 use Rattle.planner.proofs.LassoLaws.{short, codes-pickable, never, laid-of}

@@ -5,10 +5,10 @@ use native.Mathlib.Omega.{arith}
 use denote.Ref.{now}
 use lib.IntN.{ℤ, pos}
 use lib.ListN.{replicate}
-use Rattle.ratio.specs.Answer.{Judged}
+use Rattle.ratio.specs.Answer.{RatioAnswered}
 use Rattle.contract.specs.Plan.{Buffers}
 use Rattle.contract.proofs.Exits.{no-cycle-reachable, cycle-earns-nothing}
-use Rattle.planner.specs.Lent.{lent}
+use Rattle.planner.specs.ContractTerms.{lentBuffers}
 use Rattle.planner.proofs.GraphLaws.{settled-refused, never, acyclic, idle, least, least-again, cyclic}
 use borrow.Author.Needs.{needs}
 use Rattle.planner.proofs.graphs.plan_graph.Statement.{statement}
@@ -28,7 +28,7 @@ S c = c .before .before .before .before .before .before .before .before .before 
 
 -- the buffers lent to this function
 abbrev lent-to : tie.Start → Buffers
-lent-to s = lent (now (s .args .nodes)) (now (s .args .potentials)) (now (s .args .steps))
+lent-to s = lentBuffers (now (s .args .nodes)) (now (s .args .potentials)) (now (s .args .steps))
 
 -- the potentials and the cycle as `least_ratio` leaves them
 abbrev D : tie.After-least-ratio → List ℤ
@@ -39,7 +39,7 @@ cycle c = c .least-ratio .last .1 .1 .1 .1 .1 .1 .0
 
 -- its answer, told once
 judged : (l : tie.After-least-ratio) → let a = S l .args in
-    Judged (now (a .from)) (now (a .to)) (now (a .cost)) (now (a .reward)) (a .n) (replicate 2048 (pos 0)) (D l) (replicate 2048 0) (cycle l) (l .least-ratio .result)
+    RatioAnswered (now (a .from)) (now (a .to)) (now (a .cost)) (now (a .reward)) (a .n) (replicate 2048 (pos 0)) (D l) (replicate 2048 0) (cycle l) (l .least-ratio .result)
 judged l = l .least-ratio .ensures
 
 slice-aggregate-least-ratio : tie.Need-slice-aggregate-least-ratio

@@ -4,7 +4,7 @@ use native.Mathlib.Omega.{arith}
 use lib.IntN.{ℤ}
 use mir.Syntax.{w64}
 use mir.ValLaws.{toZ-ofZ}
-use Rattle.planner.specs.Lent.{accepted}
+use Rattle.planner.specs.ContractTerms.{accepted}
 use Rattle.planner.proofs.output.accepted.Statement.{statement}
 use Rattle.planner.proofs.output.accepted.Tie as tie
 

@@ -5,7 +5,7 @@ use Prim.Native.Nat.{_-_, _≤_}
 use native.Mathlib.Omega.{arith}
 use denote.Ref.{now}
 use lib.ListN.{length, length-set, take, drop}
-use Rattle.planner.specs.Hands.{cleared}
+use Rattle.planner.specs.PrivatePromises.{cleared}
 use Rattle.planner.proofs.ListLaws.{clear-none, clear-more, clear-all}
 use Rattle.planner.proofs.output.clear_nodes.Statement.{statement}
 use Rattle.planner.proofs.output.clear_nodes.Tie as tie

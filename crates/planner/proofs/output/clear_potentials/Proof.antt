@@ -6,7 +6,7 @@ use native.Mathlib.Omega.{arith}
 use denote.Ref.{now}
 use lib.IntN.{pos}
 use lib.ListN.{length, length-set, take, drop}
-use Rattle.planner.specs.Hands.{cleared}
+use Rattle.planner.specs.PrivatePromises.{cleared}
 use Rattle.planner.proofs.ListLaws.{clear-none, clear-more, clear-all}
 use Rattle.planner.proofs.output.clear_potentials.Statement.{statement}
 use Rattle.planner.proofs.output.clear_potentials.Tie as tie

@@ -3,7 +3,7 @@ use mathlib.Core.Path.{_≡_, refl, subst}
 use Prim.Native.Nat.{ℕ, _-_, _≤_}
 use native.Mathlib.Omega.{arith}
 use denote.Ref.{now}
-use Rattle.planner.specs.Hands.{Picked}
+use Rattle.planner.specs.PrivatePromises.{Picked}
 use Rattle.planner.proofs.ListLaws.{picked-none, picked-more}
 use Rattle.planner.proofs.output.encode.Statement.{statement}
 use Rattle.planner.proofs.output.encode.Tie as tie

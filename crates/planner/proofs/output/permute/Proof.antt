@@ -8,7 +8,7 @@ use mir.Syntax.{w64}
 use mir.ValLaws.{toZ-ofZ}
 use Rattle.walks.specs.Walk.{atℤ}
 use Rattle.walks.proofs.Tests.{fits}
-use Rattle.planner.specs.Hands.{Picked}
+use Rattle.planner.specs.PrivatePromises.{Picked}
 use Rattle.planner.proofs.ListLaws.{picked-none, picked-more}
 use Rattle.planner.proofs.output.permute.Statement.{statement}
 use Rattle.planner.proofs.output.permute.Tie as tie

@@ -11,9 +11,9 @@ use Rattle.contract.specs.Plan.{SameLengths}
 use Rattle.contract.proofs.Exits.{too-many-nodes}
 use Rattle.contract.proofs.Graphs.{Room}
 use Rattle.contract.specs.Explored.{stepRead, startRead}
-use Rattle.explore.specs.Answer.{Answered}
-use Rattle.explore.specs.Buffers.{Buffers, buffers, found}
-use Rattle.planner.specs.Lent.{lent}
+use Rattle.explore.specs.Answer.{ExploreAnswered}
+use Rattle.explore.specs.Buffers.{GraphBuffers, graphBuffers, found}
+use Rattle.planner.specs.ContractTerms.{lentBuffers}
 use Rattle.planner.proofs.GraphLaws.{settled-refused}
 use Rattle.planner.proofs.SheetLaws.{fresh, never, overfull, explored, few-arcs, handed, of-sheet}
 use borrow.Author.Needs.{needs}
@@ -37,23 +37,23 @@ S c = c .before .before .before .before .before .before .before .before .before 
 
 -- ---- what `explore` leaves
 
-abbrev B : tie.After-explore → Buffers
+abbrev B : tie.After-explore → GraphBuffers
 B c =
     let l = c .explore .last .1 in
     let arcs = l .1 .1 .1 .1 in
-    buffers (l .0) (l .1 .0) (l .1 .1 .0) (l .1 .1 .1 .0) (arcs .0) (arcs .1 .0) (arcs .1 .1 .0) (arcs .1 .1 .1 .0) (arcs .1 .1 .1 .1 .0)
+    graphBuffers (l .0) (l .1 .0) (l .1 .1 .0) (l .1 .1 .1 .0) (arcs .0) (arcs .1 .0) (arcs .1 .1 .0) (arcs .1 .1 .1 .0) (arcs .1 .1 .1 .1 .0)
 
 -- its answer, told once
 told : (x : tie.After-explore)
-    → Answered (stepRead (S x .args .read)) (startRead (S x .args .read)) (fresh (now (S x .args .nodes))) (B x) (x .explore .result)
+    → ExploreAnswered (stepRead (S x .args .read)) (startRead (S x .args .read)) (fresh (now (S x .args .nodes))) (B x) (x .explore .result)
 told x = x .explore .ensures
 
 -- the three buffers that were lent to this function, and as they are after `explore`
 abbrev before : tie.After-explore → Contract.Buffers
-before x = lent (now (S x .args .nodes)) (now (S x .args .potentials)) (now (S x .args .steps))
+before x = lentBuffers (now (S x .args .nodes)) (now (S x .args .potentials)) (now (S x .args .steps))
 
 abbrev after : tie.After-explore → Contract.Buffers
-after x = lent (B x .sorted) (now (S x .args .potentials)) (now (S x .args .steps))
+after x = lentBuffers (B x .sorted) (now (S x .args .potentials)) (now (S x .args .steps))
 
 same : (x : tie.After-explore) → SameLengths (after x) (before x)
 same x = record { nodes = x .explore .kept .1 .1 .0; potentials = refl; steps = refl }

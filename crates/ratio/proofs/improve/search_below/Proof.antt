@@ -11,7 +11,7 @@ use mir.Val.{SFits, toZ, ofZ}
 use mir.ValLaws.{toZ-ofZ, toZ-pos}
 use Rattle.integers.proofs.Parts.{abs-parts, neg-up, neg-dn}
 use Rattle.integers.proofs.Machine.{small, back, carry}
-use Rattle.graph.specs.Answer.{Answered}
+use Rattle.graph.specs.Answer.{SearchAnswered}
 use Rattle.ratio.proofs.Bounds.{summed}
 use Rattle.ratio.proofs.TurnLaws.{p-small, q-small, never, better, done, coded, again-settled}
 use Rattle.ratio.proofs.improve.search_below.Statement.{statement}
@@ -49,7 +49,7 @@ neg-is c = let p = c .fraction-of .result .p in
     ap (λ (x : ℤ). pos 0 -ℤ x) (toZ-ofZ w64 p (fits-p c)) ∙ +ℤ-idl (negℤ p)
 
 -- what the search answered, at the ratio
-found-is : (c : tie.After-negative-cycle) → Answered (now (S (R c) .args .from)) (now (S (R c) .args .to)) (now (S (R c) .args .cost)) (now (S (R c) .args .reward))
+found-is : (c : tie.After-negative-cycle) → SearchAnswered (now (S (R c) .args .from)) (now (S (R c) .args .to)) (now (S (R c) .args .cost)) (now (S (R c) .args .reward))
     (pos (R c .fraction-of .result .q)) (negℤ (R c .fraction-of .result .p)) (pos 0) (S (R c) .args .nodes) (now (S (R c) .args .potential)) (D c)
     (now (S (R c) .args .hand)) (hand c) (c .negative-cycle .result)
 found-is c = let s = S (R c) in let f = R c .fraction-of .result in

@@ -6,7 +6,7 @@ use lib.IntN.{ℤ}
 use mir.Syntax.{w64}
 use mir.Val.{toZ, ofZ}
 use Rattle.integers.proofs.Machine.{small}
-use Rattle.ratio.specs.Turns.{Settled, InHand, Improved}
+use Rattle.ratio.specs.Turns.{LeastInHand, InHand, Improved}
 use borrow.Author.Needs.{needs}
 use native.Mathlib.Omega.{arith}
 use denote.Ref.{now}
@@ -93,7 +93,7 @@ returns c =
     let d = was-done (now (s .args .from)) (now (s .args .to)) (now (s .args .cost)) (now (s .args .reward)) (s .args .nodes) (l .arcs) (l .potential) (D r) (l .hand) (hand r)
     (r .search-below .result) (r .search-below .ensures) (g .0 .0) (g .0 .1 .0) (g .1) in
     subst
-    (λ (x : List ℤ). Settled (now (s .args .from)) (now (s .args .to)) (now (s .args .cost)) (now (s .args .reward)) (s .args .nodes) x (D r) (hand r) (toZ w64 (ofZ w64 (g .0 .0))) (g .0 .1 .0) (l .arcs))
+    (λ (x : List ℤ). LeastInHand (now (s .args .from)) (now (s .args .to)) (now (s .args .cost)) (now (s .args .reward)) (s .args .nodes) x (D r) (hand r) (toZ w64 (ofZ w64 (g .0 .0))) (g .0 .1 .0) (l .arcs))
     (l .inv .1 .1) (again-settled (small (g .0 .0) 20480001 (omega (arith, d .p-small)) (omega arith)) d)
 
 pub settle-spec : {M : Type 1} → statement M

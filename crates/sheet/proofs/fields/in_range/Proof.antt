@@ -1,5 +1,5 @@
 -- Case by case.
-use Rattle.sheet.specs.Fields.{within, costInRange, inRange}
+use Rattle.sheet.specs.Fields.{isWithin, costInRange, inRange}
 use mir.Syntax.{w16}
 use mathlib.Core.Path.{sym, ap, _∙_}
 use Prim.Native.Nat.{ℕ, _-_}
@@ -71,7 +71,7 @@ returns-3 : tie.Need-returns-3
 unfolding inRange
 returns-3 c =
     let a = c .before .before .before .args in
-    c .is-within2 .ensures ∙ ap (λ (x : ℕ). within (a .v) 1 (x - 1)) (one-shl 64 (a .clocks) (omega arith)) ∙ sym (ap (λ f. inRange (a .clocks) f (a .v)) (c .before .enum-told3 .given .1))
+    c .is-within2 .ensures ∙ ap (λ (x : ℕ). isWithin (a .v) 1 (x - 1)) (one-shl 64 (a .clocks) (omega arith)) ∙ sym (ap (λ f. inRange (a .clocks) f (a .v)) (c .before .enum-told3 .given .1))
 
 returns-4 : tie.Need-returns-4
 unfolding inRange

@@ -5,7 +5,7 @@ use mathlib.Core.Path.{_≡_, sym, ap, _∙_}
 use Prim.Native.Nat.{ℕ}
 use lib.ListN.{length}
 use Rattle.sheet.specs.Bytes.{byteAt}
-use Rattle.sheet.specs.Fields.{within}
+use Rattle.sheet.specs.Fields.{isWithin}
 use Rattle.sheet.specs.Questions.{recordsCode}
 use borrow.Author.Needs.{needs}
 use borrow.Author.Tests.{not-true, not-false}
@@ -35,26 +35,26 @@ bytes c = c .before .before .before .args .s .now
 -- ---- what each of them says
 
 -- a byte that was read, and then held to its limits
-tested : (r v least most : ℕ) (w b : Bool) → r ≡ v → w ≡ within r least most → w ≡ b → within v least most ≡ b
-tested r v least most w b e f g = ap (λ (x : ℕ). within x least most) (sym e) ∙ sym f ∙ g
+tested : (r v least most : ℕ) (w b : Bool) → r ≡ v → w ≡ isWithin r least most → w ≡ b → isWithin v least most ≡ b
+tested r v least most w b e f g = ap (λ (x : ℕ). isWithin x least most) (sym e) ∙ sym f ∙ g
 
-length-good : (c : tie.Else1) → within (length (bytes c)) 4 580 ≡ true
+length-good : (c : tie.Else1) → isWithin (length (bytes c)) 4 580 ≡ true
 length-good c = sym (c .before .is-within .ensures) ∙ not-false (c .before .is-within .result) (c .if1 .left)
 
 edition-good : (c : tie.Else2) → byteAt (bytes (E1 c)) 0 ≡ 1
 edition-good c = sym (c .before .byte .ensures) ∙ c .if2 .left
 
-locations-good : (c : tie.Else3) → within (byteAt (bytes (E1 (E2 c))) 1) 1 12 ≡ true
+locations-good : (c : tie.Else3) → isWithin (byteAt (bytes (E1 (E2 c))) 1) 1 12 ≡ true
 locations-good c =
     let w = c .before .is-within2 in
     tested _ _ 1 12 _ _ (c .before .before .before .before .number .ensures) (w .ensures) (not-false (w .result) (c .if3 .left))
 
-clocks-good : (c : tie.Else4) → within (byteAt (bytes (E1 (E2 (E3 c)))) 2) 1 3 ≡ true
+clocks-good : (c : tie.Else4) → isWithin (byteAt (bytes (E1 (E2 (E3 c)))) 2) 1 3 ≡ true
 clocks-good c =
     let w = c .before .is-within3 in
     tested _ _ 1 3 _ _ (c .before .before .before .before .before .number2 .ensures) (w .ensures) (not-false (w .result) (c .if4 .left))
 
-edges-good : (c : tie.Else5) → within (byteAt (bytes (E1 (E2 (E3 (E4 c))))) 3) 0 32 ≡ true
+edges-good : (c : tie.Else5) → isWithin (byteAt (bytes (E1 (E2 (E3 (E4 c))))) 3) 0 32 ≡ true
 edges-good c =
     let w = c .before .is-within4 in
     tested _ _ 0 32 _ _ (c .before .before .before .before .before .before .number3 .ensures) (w .ensures) (not-false (w .result) (c .if5 .left))

@@ -20,7 +20,7 @@ use Rattle.nodes.specs.Decoded.{decodedMeaning, locationIn, edgeIn}
 use Rattle.region.specs.Answers.{answered}
 use Rattle.step.proofs.SheetLaws.{any-default}
 use Rattle.walks.specs.Walk.{at}
-use Rattle.explore.specs.Buffers.{Buffers, buffers, LongEnough}
+use Rattle.explore.specs.Buffers.{GraphBuffers, graphBuffers, HasRoom}
 use Rattle.explore.proofs.CountLaws.{Counts, counts, edge-place}
 use Rattle.explore.proofs.SearchLaws.{Searched, seeded}
 use Rattle.explore.proofs.ArcLaws.{Pushed}
@@ -34,8 +34,8 @@ step sheet = stepBy firstLayout (decodedMeaning sheet)
 abbrev pub Inv-loop : tie.InvT-loop
 Inv-loop sheet nodes₀ sorted₀ order₀ tree₀ from₀ to₀ code₀ cost₀ reward₀ edges locations hints₀ n₀ m₀ t₀ nodes sorted order tree from to code cost reward hints n m t =
     Searched (step sheet) (startNumber firstLayout (decodedMeaning sheet))
-    (buffers nodes₀ sorted₀ order₀ tree₀ from₀ to₀ code₀ cost₀ reward₀) (buffers nodes sorted order tree from to code cost reward) n m t
-    × Same (buffers nodes₀ sorted₀ order₀ tree₀ from₀ to₀ code₀ cost₀ reward₀) (buffers nodes sorted order tree from to code cost reward)
+    (graphBuffers nodes₀ sorted₀ order₀ tree₀ from₀ to₀ code₀ cost₀ reward₀) (graphBuffers nodes sorted order tree from to code cost reward) n m t
+    × Same (graphBuffers nodes₀ sorted₀ order₀ tree₀ from₀ to₀ code₀ cost₀ reward₀) (graphBuffers nodes sorted order tree from to code cost reward)
 
 abbrev pub μ-loop : tie.MeasureT-loop
 μ-loop sheet nodes₀ sorted₀ order₀ tree₀ from₀ to₀ code₀ cost₀ reward₀ edges locations hints₀ n₀ m₀ t₀ nodes sorted order tree from to code cost reward hints n m t = 69632 - t
@@ -83,22 +83,22 @@ S c = c .before .before .before .before .before .before .before .before .before 
 
 -- ---- the buffers at entry, where a turn begins, and where it has written an arc
 
-abbrev pub entry : tie.Start Inv-loop μ-loop → Buffers
+abbrev pub entry : tie.Start Inv-loop μ-loop → GraphBuffers
 entry s =
-    buffers (now (s .args .nodes)) (now (s .args .sorted)) (now (s .args .order)) (now (s .args .tree)) (now (s .args .from)) (now (s .args .to))
+    graphBuffers (now (s .args .nodes)) (now (s .args .sorted)) (now (s .args .order)) (now (s .args .tree)) (now (s .args .from)) (now (s .args .to))
     (now (s .args .code)) (now (s .args .cost)) (now (s .args .reward))
 
-abbrev pub here : tie.At-loop Inv-loop μ-loop → Buffers
-here c = let l = c .loop in buffers (l .nodes) (l .sorted) (l .order) (l .tree) (l .from) (l .to) (l .code) (l .cost) (l .reward)
+abbrev pub here : tie.At-loop Inv-loop μ-loop → GraphBuffers
+here c = let l = c .loop in graphBuffers (l .nodes) (l .sorted) (l .order) (l .tree) (l .from) (l .to) (l .code) (l .cost) (l .reward)
 
-abbrev pub after : tie.After-price Inv-loop μ-loop → Buffers
+abbrev pub after : tie.After-price Inv-loop μ-loop → GraphBuffers
 after c =
     let v = E (J c) .enter .last in
     let j = J c .join .last in
     let p = c .price .last in
-    buffers (v .0) (v .1 .0) (v .1 .1 .0) (v .1 .1 .1 .0) (j .0) (j .1 .0) (j .1 .1 .0) (p .0) (p .1 .0)
+    graphBuffers (v .0) (v .1 .0) (v .1 .1 .0) (v .1 .1 .1 .0) (j .0) (j .1 .0) (j .1 .1 .0) (p .0) (p .1 .0)
 
-pub long : (c : tie.At-loop Inv-loop μ-loop) → LongEnough (here c)
+pub long : (c : tie.At-loop Inv-loop μ-loop) → HasRoom (here c)
 long c = long-kept (entry (S c)) (here c) (c .loop .inv .1) (S c .pre)
 
 pub numbers : (c : tie.In-loop Inv-loop μ-loop) → let l = c .before .loop in Counts (l .n) (l .m) (l .t)

@@ -12,7 +12,7 @@ use Rattle.walks.specs.Form.{Graph}
 use Rattle.walks.specs.Cycles.{SimpleCycle}
 use Rattle.lasso.specs.Answer as Lasso
 use Rattle.ratio.specs.Answer.{RatioFound}
-use Rattle.contract.specs.Plan.{Answer, refused, Buffers, zeros, LongEnough, SameLengths, Planned, stepOn, startOf}
+use Rattle.contract.specs.Plan.{Answer, refusedPlan, Buffers, zeros, LongEnough, SameLengths, Planned, stepOn, startOf}
 use Rattle.contract.specs.Explored.{Found, Explored, Sorted}
 
 -- ---- lists that are written
@@ -66,7 +66,7 @@ pub record OfSheet (F T C : List ℕ) (Z : List ℤ) (R order : List ℕ) (n : �
 
 -- the first k entries of `cycle` are a simple cycle of a graph with a search tree
 pub record Cyclic (F T C order tree cycle : List ℕ) (n k : ℕ) : Type 0 where
-  pub formed : Lasso.WellFormed F T tree cycle n k 4096
+  pub formed : Lasso.LassoArguments F T tree cycle n k 4096
   pub simple : SimpleCycle F T (length F) (take k cycle)
   pub sources : (e : ℕ) → e < length F → at F e < n
   pub codes : length C ≡ length F
@@ -85,6 +85,6 @@ pub record Solved (F T C order : List ℕ) (D : List ℤ) (cycle : List ℕ) (n 
 -- ---- what the plan comes to
 
 -- an accepted plan stands in the buffers; for a refusal they are still to be cleared
-pub record Settled (bytes : List ℕ) (before after : Buffers) (a : Answer) : Type 0 where
+pub record PlannedButForClearing (bytes : List ℕ) (before after : Buffers) (a : Answer) : Type 0 where
   pub planned : a .refusal ≡ 0 → Planned bytes before after a
-  pub cleared : (a .refusal ≡ 0 → ⊥) → Planned bytes before (zeros before) (refused (a .refusal))
+  pub cleared : (a .refusal ≡ 0 → ⊥) → Planned bytes before (zeros before) (refusedPlan (a .refusal))

@@ -5,8 +5,8 @@ use lib.IntN.{ℤ}
 use Rattle.contract.specs.Plan as Contract
 use Rattle.planner.specs.declared.Answer.{Answer}
 
-abbrev pub lent : List ℕ → List ℤ → List ℕ → Contract.Buffers
-lent nodes potentials steps = record { nodes = nodes; potentials = potentials; steps = steps }
+abbrev pub lentBuffers : List ℕ → List ℤ → List ℕ → Contract.Buffers
+lentBuffers nodes potentials steps = record { nodes = nodes; potentials = potentials; steps = steps }
 
 abbrev pub answerOf : Answer → Contract.Answer
 answerOf a = record { refusal = a .refusal; p = a .p; q = a .q; n = a .n; s = a .s; m = a .m }

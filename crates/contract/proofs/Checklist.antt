@@ -9,7 +9,7 @@ use lib.ListN.{length}
 use Rattle.integers.specs.Lowest.{Lowest}
 use Rattle.sheet.specs.Questions.{checkOf}
 use Rattle.walks.specs.Walk.{at, atℤ}
-use Rattle.walks.specs.Weight.{weightOf, sum, total, Potential}
+use Rattle.walks.specs.Weight.{weightOf, sum, total, PotentialOrMark}
 use Rattle.walks.specs.Cycles.{EachEarns}
 use Rattle.walks.proofs.Lassos.{Lasso}
 use Rattle.contract.specs.Plan.{Buffers, LongEnough, SameLengths, stepOn, startOf}
@@ -31,7 +31,7 @@ pub record InHand (bytes : List ℕ) (before after : Buffers) (g : Found) (p : �
   -- so is question 13, since there is the lasso; and question 14
   pub earns : EachEarns (g .from) (g .to) (g .m) (g .reward)
   -- the potentials at p/q
-  pub potentials : (v : ℕ) → v < g .n → Potential (g .from) (g .to) (g .m) (weightAt p q g) v (atℤ D v)
+  pub potentials : (v : ℕ) → v < g .n → PotentialOrMark (g .from) (g .to) (g .m) (weightAt p q g) v (atℤ D v)
   -- p/q is the ratio of the lasso's cycle, in lowest terms. A cycle turned has the same: `Graphs.exact-turned`.
   pub lowest : Lowest p q
   pub exact : pos q *ℤ sum (atℤ (g .cost)) cycle ≡ p *ℤ pos (total (at (g .reward)) cycle)
