@@ -11,7 +11,7 @@ use Rattle.sheet.specs.Questions.{checkOf}
 use Rattle.walks.specs.Walk.{at, atℤ}
 use Rattle.walks.specs.Weight.{weightOf, sum, total, PotentialOrMark}
 use Rattle.walks.specs.Cycles.{EachEarns}
-use Rattle.walks.proofs.Lassos.{Lasso}
+use Rattle.walks.specs.Lasso.{ArcLasso}
 use Rattle.contract.specs.Plan.{Buffers, LongEnough, SameLengths, stepOn, startOf}
 use Rattle.contract.specs.Explored.{Found, Explored}
 pub use Rattle.contract.specs.Explored.{Sorted}
@@ -36,7 +36,7 @@ pub record InHand (bytes : List ℕ) (before after : Buffers) (g : Found) (p : �
   pub lowest : Lowest p q
   pub exact : pos q *ℤ sum (atℤ (g .cost)) cycle ≡ p *ℤ pos (total (at (g .reward)) cycle)
   -- a stem from node 0 and a cycle at its end, whose arcs leave distinct nodes: the law `lasso` of walks. That s + m ≤ n follows.
-  pub lasso : Lasso (g .from) (g .to) (g .m) stem cycle
+  pub lasso : ArcLasso (g .from) (g .to) (g .m) stem cycle
   -- written to the buffers: the nodes in rising order
   pub sorted : Sorted g order (after .nodes)
   pub nodes-rest : (i : ℕ) → g .n ≤ i → i < length (after .nodes) → at (after .nodes) i ≡ 0

@@ -13,6 +13,7 @@ use Rattle.automaton.specs.Walks.{Walk}
 use Rattle.automaton.proofs.Chains.{some-inj}
 use Rattle.walks.specs.Walk as Graph
 use Rattle.walks.specs.Walk.{at}
+use Rattle.walks.specs.Lasso.{ArcLasso}
 use Rattle.walks.proofs.Lassos as GraphLassos
 use Rattle.contract.specs.Accepted.{Lasso}
 use Rattle.contract.specs.Explored.{Found, Explored}
@@ -36,7 +37,7 @@ front-walk F T m a (e ∷ l) b zero w h = sym (w .1)
 front-walk F T m a (e ∷ l) b (suc i) w h = (w .0, w .1, front-walk F T m (at T e) l b i (w .2) (le-of-suc-le-suc h))
 
 module _ {step : ℕ → ℕ → Option (Priced ℕ)} {start : ℕ} {g : Found} (x : Explored step start g) (stem cycle : List ℕ)
-    (o : GraphLassos.Lasso (g .from) (g .to) (g .m) stem cycle) where
+    (o : ArcLasso (g .from) (g .to) (g .m) stem cycle) where
   abbrev arcs : List ℕ
   arcs = stem ++ cycle
 

@@ -32,7 +32,7 @@ pub struct Stepped {
 }
 
 // A refusal, and nothing else.
-pub fn refusedStep(refusal: u8) -> Stepped
+pub fn refused(refusal: u8) -> Stepped
     ensures { λ r. ⌜ r ≡ refusedStep refusal ⌝ }
 {
     Stepped {
