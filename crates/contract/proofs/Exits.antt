@@ -15,13 +15,13 @@ use Rattle.sheet.specs.Questions.{checkOf}
 use Rattle.nodes.specs.Meaning.{meaning, layoutOf}
 use Rattle.nodes.proofs.NumberLaws.{no-loop-below-numbers}
 use Rattle.nodes.proofs.CheckedLaws.{sound, room}
+use Rattle.nodes.proofs.CheckNumberLaws.{check-low}
 use Rattle.walks.specs.Cycles.{Acyclic, Idle}
 use Rattle.contract.specs.Questions.{TooMany, IdleCycle, too-many, no-cycle, idle-cycle, all-yes}
 use Rattle.contract.specs.Accepted.{Accepted}
 use Rattle.contract.specs.Plan.{refusedPlan, Buffers, zeros, LongEnough, SameLengths, stepOn, startOf, Judged, too-short, faulty, explored, Planned}
 use Rattle.contract.specs.Explored.{Found, Explored, Overfull}
 use Rattle.contract.proofs.Checklist.{InHand}
-use Rattle.contract.proofs.Checks.{check-low}
 use Rattle.contract.proofs.Counts as Counts
 use Rattle.contract.proofs.Arcs as Arcs
 use Rattle.contract.proofs.Searches as Searches

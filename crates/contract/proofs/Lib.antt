@@ -5,7 +5,6 @@ pub mod Counts
 pub mod Searches
 pub mod Lassos
 pub mod Accepting
-pub mod Checks
 pub mod Exits
 pub mod DecodedSheets
 pub mod Graphs
@@ -15,3 +14,4 @@ pub mod Unique
 pub mod Tests
 pub mod Certificates
 pub mod ChangesHold
+pub mod OnNodes

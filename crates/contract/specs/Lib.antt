@@ -1,6 +1,8 @@
 pub mod Questions
 pub mod Accepted
 pub mod Plan
+pub mod Conditions
+pub mod OnNodes
 pub mod Explored
 pub mod Answers
 pub mod Certificate

@@ -5,3 +5,4 @@ pub mod QuestionLaws
 pub mod CheckedLaws
 pub mod AgreeLaws
 pub mod DecodedLaws
+pub mod CheckNumberLaws

@@ -14,7 +14,7 @@ use Rattle.automaton.specs.Priced.{Priced}
 use Rattle.automaton.specs.Nodes.{Node, isNode, startNode, Sound}
 use Rattle.automaton.specs.Steps.{step}
 use Rattle.automaton.specs.Walks.{Walk, Reachable, ReachableCycle}
-use Rattle.automaton.specs.Weights.{weight, Feasible}
+use Rattle.automaton.specs.Weights.{weight, Feasible, Potential}
 use Rattle.automaton.specs.Runs.{State, Member, run, startState}
 use Rattle.automaton.specs.Loops.{NoLoopBelow}
 use Rattle.automaton.proofs.Tests.{&&-left, &&-right, &&-intro}
@@ -24,7 +24,7 @@ use Rattle.automaton.proofs.Reached.{start-is-node, step-to-node}
 use Rattle.automaton.proofs.Comparison.{no-loop-below, run-weighs}
 use Rattle.nodes.specs.Numbers.{Layout, classAt, number, nodeOf, isNumber, stepBy, startNumber}
 use Rattle.nodes.proofs.Packing.{Fits, unpacked}
-use Rattle.nodes.proofs.Carried.{named, named-some, Source, Back, walk-named, walk-back, reach-named, reach-back, cycle-named, cycle-back, feasible-back, feasible-named}
+use Rattle.nodes.proofs.Carried.{named, named-some, Source, Back, walk-named, walk-back, reach-named, reach-back, cycle-named, cycle-back, feasible-back, feasible-named, potential-back}
 
 -- the nodes of an automaton have room in a layout
 pub record Room (y : Layout) (A : Automaton) : Type 0 where
@@ -132,6 +132,11 @@ module _ (y : Layout) (A : Automaton) (room : Room y A) where
 
     pub cycle-number : {c : ℤ} {r : ℕ} → ReachableCycle (stepBy y A) (startNumber y A) c r → ReachableCycle (step A) (startNode A) c r
     cycle-number = cycle-back (step A) (stepBy y A) (number y) (λ u. isNode A u ≡ true) keeps same-step (startNode A) begins apart
+
+    -- the potential of a node's number is the node's
+    pub potential-number : (p : ℤ) (q : ℕ) {u : Node} {z : ℤ} → isNode A u ≡ true → Potential (stepBy y A) (startNumber y A) p q (number y u) z
+        → Potential (step A) (startNode A) p q u z
+    potential-number = potential-back (step A) (stepBy y A) (number y) (λ u. isNode A u ≡ true) keeps same-step (startNode A) begins apart
 
     pub number-feasible : (p : ℤ) (q : ℕ) (π : ℕ → ℤ) → Feasible (step A) (startNode A) p q (λ u. π (number y u))
         → Feasible (stepBy y A) (startNumber y A) p q π

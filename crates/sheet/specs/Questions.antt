@@ -1,6 +1,6 @@
 -- The questions put to a sheet. "Reading stops at the first question answered no, with that number."
 use mathlib.Core.Bool.{Bool, true, not, cond, _&&_, _||_}
-use mathlib.Core.List.{List}
+use mathlib.Core.List.{List, [], _∷_}
 use mathlib.Core.Option.{Option, none, some}
 use Prim.Native.Nat.{ℕ, zero, suc, _+_}
 use lib.Dec.{ltb, leb, eqb}
@@ -88,3 +88,7 @@ checkOf s =
     (ask 3 (eqb (byteAt s 0) 1)
     (ask 4 (isWithin (locationsIn s) 1 12 && (isWithin (clocksIn s) 1 (firstEdition .clocks) && isWithin (edgesIn s) 0 32))
     (recordsCode (clocksIn s) (locationsIn s) (edgesIn s) s)))
+
+-- the numbers that the check can answer
+abbrev pub checkNumbers : List ℕ
+checkNumbers = 0 ∷ 2 ∷ 3 ∷ 4 ∷ 5 ∷ 6 ∷ 7 ∷ 8 ∷ 9 ∷ 10 ∷ 11 ∷ []
