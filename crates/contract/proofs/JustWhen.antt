@@ -12,7 +12,7 @@ use Rattle.automaton.specs.Tests.{occurs, every}
 use Rattle.automaton.proofs.Tests.{clash}
 use Rattle.automaton.specs.Priced.{Priced}
 use Rattle.sheet.specs.Questions.{checkOf, checkNumbers}
-use Rattle.nodes.proofs.CheckNumberLaws.{check-number, passes}
+use Rattle.nodes.proofs.CheckNumberLaws.{check-number, passes, absent}
 use Rattle.contract.specs.Questions.{TooMany, SomeCycle, IdleCycle, Verdict, too-many, no-cycle, idle-cycle, all-yes}
 use Rattle.contract.specs.Plan.{Buffers, LongEnough, SameLengths, stepOn, startOf, Judged, too-short, faulty, explored}
 use Rattle.contract.specs.Conditions.{planNumbers, Passed, OnItsCondition}
@@ -109,9 +109,6 @@ module _ (bytes : List ℕ) (a b : Buffers) (same : SameLengths a b) (r t : ℕ)
   refusal-unique (explored h k v) (explored l m w) = verdict-unique (stepOn bytes) (startOf bytes) r t v w
 
 -- ---- all questions
-absent : (k n : ℕ) → occurs n checkNumbers ≡ false → k ≡ n → occurs k checkNumbers ≡ true → ⊥
-absent k n f e o = clash (ap (λ (x : ℕ). occurs x checkNumbers) (sym e) ∙ o) f
-
 module _ (bytes : List ℕ) (b : Buffers) (r : ℕ) where
   one-of-these : Judged bytes b r → occurs r planNumbers ≡ true
   unfolding every

@@ -5,17 +5,13 @@ use mathlib.Core.Bool.{true}
 use mathlib.Core.List.{List, [], _∷_, _++_}
 use Prim.Native.Nat.{ℕ}
 use Rattle.automaton.specs.Tests.{occurs}
-use Rattle.sheet.specs.Questions.{checkOf, checkNumbers}
+use Rattle.sheet.specs.Questions.{checkOf, checkNumbers, JustWhere}
 use Rattle.contract.specs.Questions.{TooMany, SomeCycle, IdleCycle}
 use Rattle.contract.specs.Plan.{Buffers, LongEnough, stepOn, startOf}
 
 -- 1, those of the check, and 12 to 14
 abbrev pub planNumbers : List ℕ
 planNumbers = 1 ∷ checkNumbers ++ 12 ∷ 13 ∷ 14 ∷ []
-
--- r is k where this holds, and only there
-abbrev pub JustWhere : ℕ → ℕ → Type 0 → Type 0
-JustWhere r k holds = (r ≡ k → holds) × (holds → r ≡ k)
 
 -- questions 1 to 11 are answered yes
 abbrev pub Passed : List ℕ → Buffers → Type 0

@@ -79,3 +79,7 @@ passes t (x ∷ l) h v o = by-bool (eqb v x)
 pub check-low : (s : List ℕ) → checkOf s ≤ 11
 unfolding every
 check-low s = leb-true (checkOf s) 11 (passes (λ r. leb r 11) checkNumbers refl (checkOf s) (check-number s))
+
+-- a number that does not occur among them is no other that does
+pub absent : (k n : ℕ) → occurs n checkNumbers ≡ false → k ≡ n → occurs k checkNumbers ≡ true → ⊥
+absent k n f e o = clash (ap (λ (x : ℕ). occurs x checkNumbers) (sym e) ∙ o) f

@@ -3,3 +3,4 @@ pub mod LassoLaws
 pub mod AcceptLaws
 pub mod GraphLaws
 pub mod SheetLaws
+pub mod SteppedLasso

@@ -1,4 +1,5 @@
 -- The questions put to a sheet. "Reading stops at the first question answered no, with that number."
+use mathlib.Core.Path.{_≡_}
 use mathlib.Core.Bool.{Bool, true, not, cond, _&&_, _||_}
 use mathlib.Core.List.{List, [], _∷_}
 use mathlib.Core.Option.{Option, none, some}
@@ -92,3 +93,7 @@ checkOf s =
 -- the numbers that the check can answer
 abbrev pub checkNumbers : List ℕ
 checkNumbers = 0 ∷ 2 ∷ 3 ∷ 4 ∷ 5 ∷ 6 ∷ 7 ∷ 8 ∷ 9 ∷ 10 ∷ 11 ∷ []
+
+-- the number r is k where this holds, and only there
+abbrev pub JustWhere : ℕ → ℕ → Type 0 → Type 0
+JustWhere r k holds = (r ≡ k → holds) × (holds → r ≡ k)

@@ -1,2 +1,4 @@
 pub mod SheetLaws
 pub mod StepLaws
+pub mod AskedLaws
+pub mod StepNumberLaws

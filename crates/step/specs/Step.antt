@@ -1,9 +1,12 @@
 -- A single step: what it answers for every byte string, number and code.
 use mathlib.Core.Bool.{cond}
 use mathlib.Core.List.{List}
+use mathlib.Core.Option.{Option}
 use Prim.Native.Nat.{ℕ}
 use lib.Dec.{eqb}
+use Rattle.automaton.specs.Tests.{only}
 use Rattle.automaton.specs.Automaton.{Automaton}
+use Rattle.automaton.specs.Priced.{Priced}
 use Rattle.sheet.specs.Questions.{checkOf}
 use Rattle.sheet.specs.declared.Sheet.{Sheet}
 use Rattle.nodes.specs.Numbers.{Layout, firstLayout, isNumber, stepBy}
@@ -23,3 +26,7 @@ stepOf s x code = cond (eqb (checkOf s) 0) (answerAt (layoutOf s) (meaning s) x 
 -- the same of a decoded sheet
 unfoldable pub stepIn : Sheet → ℕ → ℕ → Stepped
 stepIn s x code = cond (eqb (s .refusal) 0) (answerAt firstLayout (decodedMeaning s) x code) (refusedStep (s .refusal))
+
+-- a single step as walks are made of: where it leads, or nothing where it is refused
+abbrev pub asked : List ℕ → ℕ → ℕ → Option (Priced ℕ)
+asked s x code = let a = stepOf s x code in only (eqb (a .refusal) 0) (record { to = a .number; cost = a .cost; reward = a .reward })
