@@ -84,7 +84,7 @@ array-copy-out-location : tie.Need-array-copy-out-location Inv-loop μ-loop
 array-copy-out-location c = c .location-of .ensures .0
 
 step-at-requires : tie.Need-step-at-requires Inv-loop μ-loop
-step-at-requires c κs = numbers (c .before .before .before .before .before .before) .code
+step-at-requires c κs = tt
 
 loop-less-2 : tie.Need-loop-less-2 Inv-loop μ-loop
 loop-less-2 c = numbers (Q (c .before .before)) .less
