@@ -59,7 +59,7 @@ module _ {step : ℕ → ℕ → Option (Priced ℕ)} {start : ℕ} {b₀ b : Gr
         → Stopped step start b₀ (graphBuffers N K I P (b .from) (b .to) (b .code) (b .cost) (b .reward))
     stopped N K I P j e z =
         let a = over (b .node) (b .sorted) (b .order) (b .tree) N K I P n (s .number) m j (w .searched .few-nodes) e z in
-        rw (a .nodes, a .sorted, a .order, a .tree) (stop step start b₀ b n m i k t (led s) (w .searched) (w .node) (a .full) (leads ok) (a .fresh))
+        rw (a .nodes, a .sorted, a .order, a .tree) (stop step start b₀ b n m i k t (led s) (w .searched) (w .node) (w .code) (w .turn) (a .full) (leads ok) (a .fresh))
 
     module _ (b' : GraphBuffers) (j : ℕ) (e : Entered (b .node) (b .sorted) (b .order) (b .tree) (b' .node) (b' .sorted) (b' .order) (b' .tree) n (s .number) m j)
         (room : j ≡ 2048 → ⊥) (arc : Pushed b b' m i j k s) where

@@ -7,3 +7,4 @@ pub mod LengthLaws
 pub mod ArcLaws
 pub mod TurnLaws
 pub mod EnterLaws
+pub mod AnswerLaws

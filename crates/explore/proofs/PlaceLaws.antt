@@ -1,28 +1,27 @@
 -- A place in a rising list, and an insertion there.
 use mathlib.Core.Path.{_≡_, refl, ap, _∙_}
 use mathlib.Core.List.{List}
-use Prim.Native.Nat.{ℕ, _+_, _-_, _/_, _%_, _≤_, _<_}
+use Prim.Native.Nat.{ℕ, _+_, _-_, _*_, _/_, _≤_, _<_}
 use native.Mathlib.Omega.{arith}
 use native.Mathlib.Nat.{mod-eq-of-lt}
 use native.Mathlib.Decide.{ℕ-discrete, decLt}
-use lib.Bits.{bitAnd, and-mask, and-zero-r}
+use lib.Bits.{bitAnd, and-comm, and-mask, and-shifted}
 use lib.ListN.{length, set, length-set, drop}
 use lib.Seq.{getD-set-same, getD-set-other, drop-set-lt}
 use Rattle.walks.specs.Walk.{at}
 use Rattle.explore.specs.Index.{Rising, Place, Inserted}
 
--- ---- the difference of v and x modulo 2 ^ 64 has ones from bit 32 on where v is below x, and zeros else
-module _ (v x d gap : ℕ) (f : v < 4294967296) (g : x < 4294967296) (w : gap < 18446744073709551616) (e : (gap + x) % 18446744073709551616 ≡ v)
-    (h : d < 4294967296) where
-  pub gap-ones : v < x → bitAnd d (gap / 4294967296) ≡ d
+-- ---- bit 32 of v + 2 ^ 32 - x stands just where x is at most v, and a mask less by one has 32 ones, or that bit alone
+module _ (v x d : ℕ) (f : v < 4294967296) (g : x < 4294967296) (h : d < 4294967296) where
+  pub gap-ones : v < x → bitAnd d ((v + 4294967296 - x) / 4294967296 + 4294967295) ≡ d
   gap-ones l =
-      let q : gap / 4294967296 ≡ 4294967295 = omega arith in
+      let q : (v + 4294967296 - x) / 4294967296 + 4294967295 ≡ 4294967295 = omega arith in
       ap (bitAnd d) q ∙ and-mask d 32 ∙ mod-eq-of-lt h
 
-  pub gap-zeros : x ≤ v → bitAnd d (gap / 4294967296) ≡ 0
+  pub gap-zeros : x ≤ v → bitAnd d ((v + 4294967296 - x) / 4294967296 + 4294967295) ≡ 0
   gap-zeros l =
-      let q : gap / 4294967296 ≡ 0 = omega arith in
-      ap (bitAnd d) q ∙ and-zero-r d
+      let q : (v + 4294967296 - x) / 4294967296 + 4294967295 ≡ 1 * 4294967296 = omega arith in
+      ap (bitAnd d) q ∙ and-comm d (1 * 4294967296) ∙ and-shifted 1 32 d h
 
 -- ---- the search: all before low is below x, all from high on is not
 pub record Bracket (K : List ℕ) (n x low high : ℕ) : Type 0 where

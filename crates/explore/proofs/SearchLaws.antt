@@ -15,7 +15,7 @@ use Rattle.walks.specs.Walk.{at}
 use Rattle.contract.specs.Explored.{ArcOf, Explored}
 use Rattle.explore.specs.Buffers.{GraphBuffers, graphBuffers, found, HasRoom}
 use Rattle.explore.specs.Index.{Index}
-use Rattle.explore.specs.Answer.{SearchTree, BySource, Rest, Filled, IsStep, Stopped}
+use Rattle.explore.specs.Answer.{SearchTree, BySource, turnOf, turnOfArc, Rest, Filled, IsStep, Stopped}
 use Rattle.explore.proofs.IndexLaws.{one}
 
 -- below m, or m
@@ -69,8 +69,8 @@ module _ (step : ℕ → ℕ → Option (Priced ℕ)) (start : ℕ) where
     pub distinct : (a b : ℕ) → a < n → b < n → at (after .node) a ≡ at (after .node) b → a ≡ b
     pub reachable : (a : ℕ) → a < n → Reachable step start (at (after .node) a)
     pub steps : (e : ℕ) → e < m → IsStep step after n e
-    pub complete : (a c : ℕ) (v : Priced ℕ) → c < 34 → 34 * a + c < t → step (at (after .node) a) c ≡ some v → ArcOf (found after n m) a c
-    pub passed : (e : ℕ) → e < m → 34 * at (after .from) e + at (after .code) e < t
+    pub complete : (a c : ℕ) (v : Priced ℕ) → c < 34 → turnOf a c < t → step (at (after .node) a) c ≡ some v → ArcOf (found after n m) a c
+    pub passed : (e : ℕ) → e < m → turnOfArc after e < t
     pub codes : (e : ℕ) → e < m → at (after .code) e < 34
     pub by-source : BySource after m
     pub tree : SearchTree after n m
@@ -171,9 +171,9 @@ module _ (step : ℕ → ℕ → Option (Priced ℕ)) (start : ℕ) where
   }
 
   -- a step to one node more than there is room for
-  pub stop : (b₀ b : GraphBuffers) (n m i k t : ℕ) (v : Priced ℕ) → Searched (seeded b₀) b n m t → i < n → n ≡ 2048 → step (at (b .node) i) k ≡ some v
-      → ((a : ℕ) → a < n → at (b .node) a ≡ v .to → ⊥) → Stopped step start b₀ b
-  stop b₀ b n m i k t v g hi z leads fresh = record {
+  pub stop : (b₀ b : GraphBuffers) (n m i k t : ℕ) (v : Priced ℕ) → Searched (seeded b₀) b n m t → i < n → k < 34 → t ≡ 34 * i + k → n ≡ 2048
+      → step (at (b .node) i) k ≡ some v → ((a : ℕ) → a < n → at (b .node) a ≡ v .to → ⊥) → Stopped step start b₀ b
+  stop b₀ b n m i k t v g hi hk turn z leads fresh = record {
     overfull = record {
       distinct = λ a c ha hc. g .distinct a c (omega arith) (omega arith);
       reachable = λ a h. g .reachable a (omega arith);
@@ -182,7 +182,16 @@ module _ (step : ℕ → ℕ → Option (Priced ℕ)) (start : ℕ) where
       extra-reachable = reach-step step start (at (b .node) i) k v (g .reachable i hi) leads;
     };
     first = g .first;
+    node = i;
+    code = k;
+    cost = v .cost;
+    reward = v .reward;
+    node-in = omega arith;
+    code-in = hk;
+    leads = leads;
     arcs = m;
     filled = subst (λ (n : ℕ). Filled b₀ b n m) z (filled b₀ b n m t g);
     steps = λ e h. subst (λ (n : ℕ). IsStep step b n e) z (g .steps e h);
+    earlier = λ e h. omega (arith, g .passed e h);
+    complete = λ a c w hc h q. subst (λ (n : ℕ). ArcOf (found b n m) a c) z (g .complete a c w hc (omega arith) q);
   }

@@ -20,7 +20,7 @@ use Rattle.nodes.specs.Numbers.{firstLayout, bitsOf, nodeOf, number, clocksFrom
 use Rattle.nodes.specs.Decoded.{decodedMeaning, edgeIn, alone}
 use Rattle.region.specs.Answers.{answered, refusedStep}
 use Rattle.region.specs.declared.Stepped.{Stepped}
-use Rattle.step.proofs.SheetLaws.{no-edge, edge-there, delay-there}
+use Rattle.step.proofs.SheetLaws.{no-edge, no-code, edge-there, delay-there}
 use Rattle.explore.specs.Records.{Records}
 
 -- the first i entries of s stand in front of n entries, blank ones after them
@@ -69,6 +69,9 @@ module _ (s : Sheet) (x k clocks count : ℕ) (edge : Edge) (location : Location
   pub delay-by-record : (c : ℕ) → k ≡ c → 31 < c → Is (answered (stepBy firstLayout (alone clocks blankEdge location) x c))
   delay-by-record c e h = ap (λ (n : ℕ). answered (stepBy firstLayout (alone n blankEdge location) x c)) (r .clocks-are)
       ∙ delay-there s x k c e h location (r .here-is (omega arith))
+
+  pub no-step-there : 31 < k → (k ≡ 32 → ⊥) → (k ≡ 33 → ⊥) → Is (refusedStep 16)
+  no-step-there = no-code s x k
 
 -- ---- an edge of another location is no step
 both-false : (b c : Bool) → b && (false && c) ≡ false

@@ -1,15 +1,28 @@
--- What `explore` answers, for any steps by code. The buffers as the call finds them are `before`, and as it leaves them `after`.
+-- What `explore` answers: this paper's number, and what stands in the buffers. As the call finds them they are `before`, and as it leaves them
+-- `after`.
 use mathlib.Core.Path.{_≡_}
-use mathlib.Core.Option.{Option, some}
+use mathlib.Core.Option.{Option, none, some}
 use Prim.Native.Nat.{ℕ, _+_, _*_, _≤_, _<_}
+use lib.IntN.{ℤ}
 use lib.ListN.{drop}
 use Rattle.automaton.specs.Priced.{Priced}
+use Rattle.sheet.specs.declared.Sheet.{Sheet}
 use Rattle.walks.specs.Walk.{at, atℤ}
-use Rattle.contract.specs.Explored.{Explored, Overfull}
-use Rattle.explore.specs.Buffers.{GraphBuffers, HasRoom, found}
+use Rattle.contract.specs.Questions as Questions
+use Rattle.contract.specs.Explored.{ArcOf, Explored, Overfull, stepRead, startRead}
+use Rattle.explore.specs.Buffers.{GraphBuffers, found}
+use Rattle.explore.specs.Explorable.{Explorable}
 use Rattle.explore.specs.Index.{Index}
 use Rattle.explore.specs.declared.Outcome.{Outcome}
 use Rattle.explore.specs.declared.Outcome.the-variants.{Malformed, TooMany, Graph}
+
+-- the number of each outcome: that of question 12, or 0. A call that is not explorable has no number of this paper's, and no plan gets it.
+abbrev pub outcomeNumber : Outcome → Option ℕ
+outcomeNumber Malformed = none
+outcomeNumber TooMany = some 12
+outcomeNumber (Graph n m) = some 0
+
+-- ---- nodes and arcs in the buffers
 
 -- the search tree: the first arc to each node but the start comes from an earlier node, and nodes stand in the order of these arcs
 pub record SearchTree (b : GraphBuffers) (n m : ℕ) : Type 0 where
@@ -19,9 +32,17 @@ pub record SearchTree (b : GraphBuffers) (n m : ℕ) : Type 0 where
   pub first : (e : ℕ) → e < m → 0 < at (b .to) e → at (b .tree) (at (b .to) e) ≤ e
   pub rising : (u v : ℕ) → u < v → v < n → 0 < u → at (b .tree) u < at (b .tree) v
 
--- arcs stand by source and then code
+-- each code at each node has its turn: by node, in order of discovery, and then by code
+abbrev pub turnOf : ℕ → ℕ → ℕ
+turnOf node code = 34 * node + code
+
+-- the turn of the arc e
+abbrev pub turnOfArc : GraphBuffers → ℕ → ℕ
+turnOfArc b e = turnOf (at (b .from) e) (at (b .code) e)
+
+-- arcs stand in the order of their turns
 abbrev pub BySource : GraphBuffers → ℕ → Type 0
-BySource b m = (d e : ℕ) → d < e → e < m → 34 * at (b .from) d + at (b .code) d < 34 * at (b .from) e + at (b .code) e
+BySource b m = (d e : ℕ) → d < e → e < m → turnOfArc b d < turnOfArc b e
 
 -- beyond n nodes and m arcs nothing is written, nor is the tree's entry of the start
 pub record Rest (before after : GraphBuffers) (n m : ℕ) : Type 0 where
@@ -53,15 +74,45 @@ pub record IsStep (step : ℕ → ℕ → Option (Priced ℕ)) (b : GraphBuffers
       ≡ some (record { to = at (b .node) (at (b .to) e); cost = atℤ (b .cost) e; reward = at (b .reward) e })
 
 module _ (step : ℕ → ℕ → Option (Priced ℕ)) (start : ℕ) where
-  -- 2,048 nodes and one more; the arcs are those found before that one
+  -- 2,048 nodes and one more: a turn comes whose step leads to none of the 2,048. The arcs are the allowed steps of the turns before it, each of them
+  -- and no other. This fixes every entry, turn by turn: an allowed step is the next arc, to a node that stands already or to the next node, and the
+  -- first step to a node for which there is no room stops.
   pub record Stopped (before after : GraphBuffers) : Type 0 where
     pub overfull : Overfull step start (after .node)
     pub first : at (after .node) 0 ≡ start
+    -- the step that leads to the one more
+    pub node : ℕ
+    pub code : ℕ
+    pub cost : ℤ
+    pub reward : ℕ
+    pub node-in : node < 2048
+    pub code-in : code < 34
+    pub leads : step (at (after .node) node) code ≡ some (record { to = overfull .extra; cost = cost; reward = reward })
     pub arcs : ℕ
     pub filled : Filled before after 2048 arcs
     pub steps : (e : ℕ) → e < arcs → IsStep step after 2048 e
+    pub earlier : (e : ℕ) → e < arcs → turnOfArc after e < turnOf node code
+    pub complete : (a c : ℕ) (v : Priced ℕ) → c < 34 → turnOf a c < turnOf node code → step (at (after .node) a) c ≡ some v
+        → ArcOf (found after 2048 arcs) a c
+
+  -- 12. "Are at most 2,048 nodes reachable?" Its number where it is answered no, else 0.
+  pub data QuestionTwelve (number : ℕ) : Type 0 where
+    answered-no : number ≡ 12 → Questions.TooMany step start → QuestionTwelve number
+    answered-yes : number ≡ 0 → ¬ Questions.TooMany step start → QuestionTwelve number
+
+-- ---- the contract
+
+module _ (s : Sheet) where
+  -- the number that the call is to be answered with
+  abbrev pub Numbered : GraphBuffers → Option ℕ → Type 0
+  Numbered before none = ¬ Explorable s before
+  Numbered before (some number) = Explorable s before × QuestionTwelve (stepRead s) (startRead s) number
+
+  -- what stands in the buffers
+  abbrev pub Left : GraphBuffers → GraphBuffers → Outcome → Type 0
+  Left before after Malformed = after ≡ before
+  Left before after TooMany = Stopped (stepRead s) (startRead s) before after
+  Left before after (Graph n m) = Explored (stepRead s) (startRead s) (found after n m) × Filled before after n m
 
   abbrev pub ExploreAnswered : GraphBuffers → GraphBuffers → Outcome → Type 0
-  ExploreAnswered before after Malformed = (HasRoom before → ⊥) × (after ≡ before)
-  ExploreAnswered before after TooMany = HasRoom before × Stopped before after
-  ExploreAnswered before after (Graph n m) = HasRoom before × Explored step start (found after n m) × Filled before after n m
+  ExploreAnswered before after r = Numbered before (outcomeNumber r) × Left before after r

@@ -9,8 +9,8 @@ fn if_below(v: u32, x: u32, d: usize) -> usize
     requires { ⌜ d < 4294967296 ⌝ }
     ensures { λ r. ⌜ (v < x → r ≡ d) ⌝ ∗ ⌜ (x ≤ v → r ≡ 0) ⌝ }
 {
-    let gap = std::num::wrapping_sub_u64(v as u64, x as u64);
-    d & ((gap >> 32) as usize)
+    let gap = (v as u64 + 4294967296) - x as u64;
+    d & (((gap >> 32) + 4294967295) as usize)
 }
 
 // The first of the places below n whose number is at least x, or n: it is one of those from low to low + size.

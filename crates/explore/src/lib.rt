@@ -1,10 +1,9 @@
 // The nodes that are reachable on a decoded sheet, in order of discovery, and all steps between them as the arcs of a graph.
 ghost use mathlib.Core.Path.{_≡_};
-ghost use mathlib.Core.Bool.{_&&_};
+ghost use mathlib.Core.Bool.{true, false, _&&_};
 ghost use lib.Dec.{leb};
-ghost use Rattle.nodes.specs.Numbers.{firstLayout, stepBy, startNumber};
-ghost use Rattle.nodes.specs.Decoded.{decodedMeaning};
 ghost use Rattle.explore.specs.Buffers.{graphBuffers, eachAtLeast};
+ghost use Rattle.explore.specs.Explorable.{IsSheet};
 ghost use Rattle.explore.specs.Answer.{ExploreAnswered};
 use sheet::Sheet;
 
@@ -14,11 +13,33 @@ mod index;
 mod search;
 mod steps;
 
-// A buffer is too short; more than 2,048 nodes are reachable; or so many nodes and arcs.
+// The sheet was refused or has a count out of range, or a buffer is too short; more than 2,048 nodes are reachable; or so many nodes and arcs.
 pub enum Outcome {
     Malformed,
     TooMany,
     Graph(usize, usize),
+}
+
+// Whether a sheet was not refused and has its counts in range.
+fn is_sheet(refusal: u8, locations: u8, clocks: u8, edges: u8) -> bool
+    ensures { λ r. ⌜ (r ≡ true → IsSheet refusal locations clocks edges) ⌝ ∗ ⌜ (r ≡ false → IsSheet refusal locations clocks edges → ⊥) ⌝ }
+{
+    if refusal != 0 {
+        return false;
+    }
+    if locations < 1 {
+        return false;
+    }
+    if 12 < locations {
+        return false;
+    }
+    if clocks < 1 {
+        return false;
+    }
+    if 3 < clocks {
+        return false;
+    }
+    edges <= 32
 }
 
 fn each_at_least(least: usize, a: usize, b: usize, c: usize, d: usize) -> bool
@@ -59,7 +80,7 @@ fn long_enough(
     69632 <= reward
 }
 
-// Nothing is written where a buffer is too short.
+// Question 12. Nothing is written where the sheet or a buffer is not what a search needs.
 pub fn explore(
     sheet: Sheet,
     nodes: &mut [u32],
@@ -72,12 +93,15 @@ pub fn explore(
     cost: &mut [i16],
     reward: &mut [u16],
 ) -> Outcome
-    ensures { λ r. ⌜ ExploreAnswered (stepBy firstLayout (decodedMeaning sheet)) (startNumber firstLayout (decodedMeaning sheet))
+    ensures { λ r. ⌜ ExploreAnswered sheet
         (graphBuffers (now (nodes .entry)) (now (sorted .entry)) (now (order .entry)) (now (tree .entry))
         (now (from .entry)) (now (to .entry)) (now (code .entry)) (now (cost .entry)) (now (reward .entry)))
         (graphBuffers (now (nodes .exit)) (now (sorted .exit)) (now (order .exit)) (now (tree .exit))
         (now (from .exit)) (now (to .exit)) (now (code .exit)) (now (cost .exit)) (now (reward .exit))) r ⌝ }
 {
+    if !is_sheet(sheet.refusal, sheet.locations, sheet.clocks, sheet.edges) {
+        return Outcome::Malformed;
+    }
     if !long_enough(
         nodes.len(),
         sorted.len(),

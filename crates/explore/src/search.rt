@@ -1,7 +1,6 @@
 // The search: turn by turn, each code at each node found.
-ghost use Rattle.nodes.specs.Numbers.{firstLayout, stepBy, startNumber};
-ghost use Rattle.nodes.specs.Decoded.{decodedMeaning};
-ghost use Rattle.explore.specs.Buffers.{graphBuffers, HasRoom};
+ghost use Rattle.explore.specs.Buffers.{graphBuffers};
+ghost use Rattle.explore.specs.Explorable.{Explorable};
 ghost use Rattle.explore.specs.Answer.{ExploreAnswered};
 use crate::Outcome;
 use sheet::Sheet;
@@ -19,8 +18,8 @@ pub(crate) fn search(
     cost: &mut [i16],
     reward: &mut [u16],
 ) -> Outcome
-    requires { ⌜ HasRoom (graphBuffers (now nodes) (now sorted) (now order) (now tree) (now from) (now to) (now code) (now cost) (now reward)) ⌝ }
-    ensures { λ r. ⌜ ExploreAnswered (stepBy firstLayout (decodedMeaning sheet)) (startNumber firstLayout (decodedMeaning sheet))
+    requires { ⌜ Explorable sheet (graphBuffers (now nodes) (now sorted) (now order) (now tree) (now from) (now to) (now code) (now cost) (now reward)) ⌝ }
+    ensures { λ r. ⌜ ExploreAnswered sheet
         (graphBuffers (now (nodes .entry)) (now (sorted .entry)) (now (order .entry)) (now (tree .entry))
         (now (from .entry)) (now (to .entry)) (now (code .entry)) (now (cost .entry)) (now (reward .entry)))
         (graphBuffers (now (nodes .exit)) (now (sorted .exit)) (now (order .exit)) (now (tree .exit))

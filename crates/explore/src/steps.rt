@@ -74,17 +74,17 @@ pub(crate) fn step_at(
     edge: Edge,
     location: Location,
 ) -> Stepped
-    requires { ⌜ k < 34 ⌝ }
     ensures { λ r. ⌜ ((s : Sheet) → Records s x k clocks count edge location → r ≡ answered (stepBy firstLayout (decodedMeaning s) x k)) ⌝ }
 {
     match k {
         0..=31 => {
             if place(count) <= k {
-                return region::refused(16);
+                return region::not_allowed();
             }
             region::edges::edge_step(x, clocks, edge, location)
         }
         32 => region::delays::unit_step(x, clocks, location),
-        _ => region::delays::move_step(x, clocks, location),
+        33 => region::delays::move_step(x, clocks, location),
+        _ => region::not_allowed(),
     }
 }

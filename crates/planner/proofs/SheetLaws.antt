@@ -1,5 +1,5 @@
 -- What `explore` answered of a sheet, with its buffers cut to the arcs.
-use mathlib.Core.Path.{_≡_, sym, _∙_, subst}
+use mathlib.Core.Path.{_≡_, refl, sym, _∙_, subst}
 use mathlib.Core.List.{List}
 use Prim.Native.Nat.{ℕ, _≤_, _<_}
 use native.Mathlib.Omega.{arith}
@@ -7,6 +7,8 @@ use lib.IntN.{pos}
 use lib.ListN.{length, take, replicate}
 use lib.Seq.{getD-take, length-take-le}
 use Rattle.sheet.specs.declared.Sheet.{Sheet}
+use Rattle.sheet.proofs.AcceptedLaws.{header}
+use Rattle.nodes.proofs.DecodedLaws.{read-passed}
 use Rattle.walks.specs.Walk.{at}
 use Rattle.lasso.specs.Answer.{TreeArc}
 use Rattle.ratio.proofs.VerdictLaws.{room}
@@ -16,6 +18,7 @@ use Rattle.contract.specs.Explored.{Explored, Overfull, stepRead, startRead, So
 use Rattle.contract.proofs.Graphs.{Room, cut, explored-cut, graph}
 use Rattle.contract.proofs.DecodedSheets.{explored-read, overfull-read}
 use Rattle.explore.specs.Buffers.{GraphBuffers, graphBuffers, found, HasRoom}
+use Rattle.explore.specs.Explorable.{IsSheet}
 use Rattle.explore.specs.Answer.{Filled, ExploreAnswered}
 use Rattle.explore.specs.declared.Outcome.{Outcome}
 use Rattle.explore.specs.declared.Outcome.the-variants.{Malformed, TooMany, Graph}
@@ -39,12 +42,19 @@ fresh-long N h = record {
   reward = room {A = ℕ} 69632 0 (omega arith);
 }
 
-module _ (read : Sheet) (N : List ℕ) (b : GraphBuffers) (A : Outcome) (z : ExploreAnswered (stepRead read) (startRead read) (fresh N) b A) where
-  abbrev Is : Outcome → Type 0
-  Is = ExploreAnswered (stepRead read) (startRead read) (fresh N) b
+-- a sheet that was read from checked bytes
+is-sheet : (read : Sheet) → ReadFrom read → IsSheet (read .refusal) (read .locations) (read .clocks) (read .edges)
+is-sheet read o =
+    let head = header (o .bytes) (o .checked) in
+    subst (λ (s : Sheet). IsSheet (s .refusal) (s .locations) (s .clocks) (s .edges)) (sym (o .is ∙ read-passed (o .bytes) (o .checked)))
+    (record { passed = refl; locations-in = head .locations; clocks-in = head .clocks; edges-in = head .edges })
 
-  pub never : A ≡ Malformed → 2048 ≤ length N → ⊥
-  never e h = subst Is e z .0 (fresh-long N h)
+module _ (read : Sheet) (N : List ℕ) (b : GraphBuffers) (A : Outcome) (z : ExploreAnswered read (fresh N) b A) where
+  abbrev Is : Outcome → Type 0
+  Is = ExploreAnswered read (fresh N) b
+
+  pub never : A ≡ Malformed → ReadFrom read → 2048 ≤ length N → ⊥
+  never e o h = subst Is e z .0 (record { sheet = is-sheet read o; room = fresh-long N h })
 
   pub overfull : A ≡ TooMany → (o : ReadFrom read) → Overfull (stepOn (o .bytes)) (startOf (o .bytes)) (b .node)
   overfull e o = overfull-read (o .bytes) (o .checked)
@@ -52,11 +62,11 @@ module _ (read : Sheet) (N : List ℕ) (b : GraphBuffers) (A : Outcome) (z : Exp
 
   module _ (n m : ℕ) (e : A ≡ Graph n m) where
     pub filled : Filled (fresh N) b n m
-    filled = subst Is e z .2
+    filled = subst Is e z .1 .1
 
     pub explored : (o : ReadFrom read) → Explored (stepOn (o .bytes)) (startOf (o .bytes)) (found b n m)
     explored o = explored-read (o .bytes) (o .checked)
-        (subst (λ (s : Sheet). Explored (stepRead s) (startRead s) (found b n m)) (o .is) (subst Is e z .1))
+        (subst (λ (s : Sheet). Explored (stepRead s) (startRead s) (found b n m)) (o .is) (subst Is e z .1 .0))
 
     pub few-arcs : (o : ReadFrom read) → m ≤ 69632
     few-arcs o = omega (arith, filled .few-arcs, explored o .few)

@@ -51,7 +51,7 @@ pub(crate) fn plan_read(
             potentials,
             steps,
         ),
-        // Never: the buffers are long enough.
+        // Never: the sheet passed the check, and the buffers are long enough.
         Outcome::Malformed => crate::output::refused(12),
     }
 }

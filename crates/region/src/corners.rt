@@ -23,7 +23,8 @@ fn is_cornered(class: [u8; 3], corner: u8) -> bool
     corner <= g
 }
 
-// Whether the number is that of a node, by its location's record.
+// Whether the number is that of a node, by its location's record. Takes for granted that the sheet has so many clocks and the location that the number
+// tells, and that `location` is that one's record.
 pub fn is_number(number: u32, clocks: u8, location: Location) -> bool
     ensures { λ r. ⌜ r ≡ isNumber firstLayout (alone clocks blankEdge location) number ⌝ }
 {

@@ -15,7 +15,8 @@ use crate::Region;
 use crate::Stepped;
 use sheet::Location;
 
-// Question 16 of one unit of delay, by the location's record.
+// Question 16 of one unit of delay. Takes for granted that the number is that of a node of the sheet (question 15 is not asked), that the sheet has
+// so many clocks, and that `location` is the record of the node's location.
 pub fn unit_step(number: u32, clocks: u8, location: Location) -> Stepped
     ensures { λ r. ⌜ r ≡ answered (stepBy firstLayout (alone clocks blankEdge location) number 32) ⌝ }
 {
@@ -24,10 +25,10 @@ pub fn unit_step(number: u32, clocks: u8, location: Location) -> Stepped
     let region = node.region;
     let ranks = region.class;
     if crate::ranks::occurs_in(ranks, k, 0) {
-        return crate::refused(16);
+        return crate::not_allowed();
     }
     if node.corner != crate::ranks::largest_of(ranks) {
-        return crate::refused(16);
+        return crate::not_allowed();
     }
     let next = Node {
         location: node.location,
@@ -113,7 +114,7 @@ fn land(node: Node, upper: [u8; 3], clocks: usize) -> Stepped
     ensures { λ r. ⌜ r ≡ answered (only (boundsIn upper clocks (node .region)) (free (number firstLayout (fromArrays node)))) ⌝ }
 {
     if !crate::bounds::inside(node.region, upper, clocks) {
-        return crate::refused(16);
+        return crate::not_allowed();
     }
     Stepped {
         refusal: 0,
@@ -123,7 +124,7 @@ fn land(node: Node, upper: [u8; 3], clocks: usize) -> Stepped
     }
 }
 
-// Question 16 of a region move, by the location's record.
+// Question 16 of a region move. Takes for granted what `unit_step` does.
 pub fn move_step(number: u32, clocks: u8, location: Location) -> Stepped
     ensures { λ r. ⌜ r ≡ answered (stepBy firstLayout (alone clocks blankEdge location) number 33) ⌝ }
 {
@@ -139,5 +140,5 @@ pub fn move_step(number: u32, clocks: u8, location: Location) -> Stepped
     if node.corner < g {
         return land(after_carry(node, g), upper, k);
     }
-    crate::refused(16)
+    crate::not_allowed()
 }

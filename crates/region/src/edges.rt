@@ -60,24 +60,26 @@ fn after_edge(node: Node, target: u8, reset: u8) -> Node
     }
 }
 
-// Question 16 of an edge, by its record and that of its target. One that starts elsewhere is refused first: most do.
+// Question 16 of an edge, by its record and that of its target. Takes for granted that the number is that of a node of the sheet (question 15 is
+// not asked), that the sheet has the edge and so many clocks, and that `target` is the record of the location that the edge leads to. An edge that
+// starts elsewhere is refused first: most do.
 pub fn edge_step(number: u32, clocks: u8, edge: Edge, target: Location) -> Stepped
     ensures { λ r. ⌜ r ≡ answered (stepBy firstLayout (alone clocks edge target) number 0) ⌝ }
 {
     if edge.source != crate::location_in(number) {
-        return crate::refused(16);
+        return crate::not_allowed();
     }
     let k = crate::few(clocks);
     let node = crate::numbers::unpack(number, k);
     let lower = edge.lower;
     let upper = edge.upper;
     if !crate::bounds::guards_hold(node.region, lower, upper, k) {
-        return crate::refused(16);
+        return crate::not_allowed();
     }
     let next = after_edge(node, edge.target, edge.reset);
     let bounds = target.upper;
     if !crate::bounds::inside(next.region, bounds, k) {
-        return crate::refused(16);
+        return crate::not_allowed();
     }
     Stepped {
         refusal: 0,

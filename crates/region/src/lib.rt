@@ -31,19 +31,19 @@ pub struct Stepped {
     pub reward: u16,
 }
 
-// A refusal, and nothing else.
-pub fn refused(refusal: u8) -> Stepped
-    ensures { λ r. ⌜ r ≡ refusedStep refusal ⌝ }
+// Question 16 answered no.
+pub fn not_allowed() -> Stepped
+    ensures { λ r. ⌜ r ≡ refusedStep 16 ⌝ }
 {
     Stepped {
-        refusal,
+        refusal: 16,
         number: 0,
         cost: 0,
         reward: 0,
     }
 }
 
-// The location that a number tells.
+// The location in a number's bits. Takes for granted that the number is a node's: a sheet may have no such location.
 pub fn location_in(number: u32) -> u8
     ensures { λ r. ⌜ r ≡ bitsOf number 4 20 ⌝ }
 {

@@ -1,16 +1,28 @@
-// One step: of a sheet's bytes, and of a decoded sheet.
+// One step of a sheet.
 ghost use mathlib.Core.Path.{_≡_};
 ghost use Prim.Native.Nat.{_≤_};
 ghost use lib.ListN.{getD};
 ghost use Rattle.nodes.specs.Numbers.{firstLayout, bitsOf, isNumber, stepBy};
 ghost use Rattle.nodes.specs.Decoded.{decodedMeaning, locationIn};
 ghost use Rattle.sheet.specs.Decoded.{blankEdge, blankLocation};
-ghost use Rattle.region.specs.Answers.{answered};
+ghost use Rattle.region.specs.Answers.{refusedStep, answered};
 ghost use Rattle.step.specs.Step.{stepOf, stepIn};
 use region::Stepped;
 use sheet::Edge;
 use sheet::Location;
 use sheet::Sheet;
+
+// A refusal, and nothing else.
+fn refused(refusal: u8) -> Stepped
+    ensures { λ r. ⌜ r ≡ refusedStep refusal ⌝ }
+{
+    Stepped {
+        refusal,
+        number: 0,
+        cost: 0,
+        reward: 0,
+    }
+}
 
 // The record of a location, a blank one past the last.
 fn location_of(all: [Location; 12], l: u8) -> Location
@@ -43,7 +55,7 @@ fn location_at(sheet: Sheet, number: u32) -> Location
 }
 
 // Question 15.
-pub fn is_number(sheet: Sheet, number: u32) -> bool
+fn is_number(sheet: Sheet, number: u32) -> bool
     ensures { λ r. ⌜ r ≡ isNumber firstLayout (decodedMeaning sheet) number ⌝ }
 {
     if sheet.locations <= region::location_in(number) {
@@ -58,7 +70,7 @@ fn edge_from(sheet: Sheet, number: u32, e: usize) -> Stepped
     ensures { λ r. ⌜ r ≡ answered (stepBy firstLayout (decodedMeaning sheet) number e) ⌝ }
 {
     if (sheet.edges as usize) <= e {
-        return region::refused(16);
+        return region::not_allowed();
     }
     let edges = sheet.edge;
     let edge = edge_of(edges, e);
@@ -68,27 +80,27 @@ fn edge_from(sheet: Sheet, number: u32, e: usize) -> Stepped
 }
 
 // Question 16.
-pub fn step_from(sheet: Sheet, number: u32, code: u16) -> Stepped
+fn step_from(sheet: Sheet, number: u32, code: u16) -> Stepped
     ensures { λ r. ⌜ r ≡ answered (stepBy firstLayout (decodedMeaning sheet) number code) ⌝ }
 {
     match code {
         0..=31 => edge_from(sheet, number, code as usize),
         32 => region::delays::unit_step(number, sheet.clocks, location_at(sheet, number)),
         33 => region::delays::move_step(number, sheet.clocks, location_at(sheet, number)),
-        _ => region::refused(16),
+        _ => region::not_allowed(),
     }
 }
 
 // One step of a decoded sheet: its refusal, then questions 15 and 16.
-pub fn step_in(sheet: Sheet, number: u32, code: u16) -> Stepped
+fn step_in(sheet: Sheet, number: u32, code: u16) -> Stepped
     ensures { λ r. ⌜ r ≡ stepIn sheet number code ⌝ }
 {
     let refusal = sheet.refusal;
     if refusal != 0 {
-        return region::refused(refusal);
+        return refused(refusal);
     }
     if !is_number(sheet, number) {
-        return region::refused(15);
+        return refused(15);
     }
     step_from(sheet, number, code)
 }

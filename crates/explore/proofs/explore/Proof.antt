@@ -1,4 +1,4 @@
--- The lengths are tested, and the search is called.
+-- The sheet and the lengths are tested, and the search is called.
 use mathlib.Core.Bool.{true}
 use mathlib.Core.Path.{_≡_, refl, sym, _∙_}
 use denote.Ref.{now}
@@ -14,24 +14,36 @@ entry s =
     graphBuffers (now (s .args .nodes)) (now (s .args .sorted)) (now (s .args .order)) (now (s .args .tree)) (now (s .args .from)) (now (s .args .to))
     (now (s .args .code)) (now (s .args .cost)) (now (s .args .reward))
 
+-- the start
+abbrev S : tie.After-is-sheet → tie.Start
+S c = c .before .before .before .before .before .before .before .before .before
+
 -- after the search
 abbrev C : tie.After-slice-known16 → tie.After-search
 C c = c .before .before .before .before .before .before .before .before .before .before .before .before .before .before .before .before .before
 
--- the test is passed
-passed : (c : tie.Else1) → fits (entry (c .before .before .before .before .before .before .before .before .before .before)) ≡ true
-passed c = sym (c .before .long-enough .ensures) ∙ not-false (c .before .long-enough .result) (c .if1 .left)
+is-sheet-requires : tie.Need-is-sheet-requires
+is-sheet-requires c κs = tt
+
+returns : tie.Need-returns
+returns c = ((λ w. c .before .is-sheet .ensures .1 (not-true (c .before .is-sheet .result) (c .if1 .taken)) (w .sheet)), refl)
 
 long-enough-requires : tie.Need-long-enough-requires
 long-enough-requires c κs = tt
 
-returns : tie.Need-returns
-returns c = (not-long (entry (c .before .before .before .before .before .before .before .before .before .before)) (sym (c .before .long-enough .ensures) ∙ not-true (c .before .long-enough .result) (c .if1 .taken)), refl)
+returns-2 : tie.Need-returns-2
+returns-2 c =
+    let test = c .before .long-enough in
+    ((λ w. not-long (entry (S (c .before .before .before))) (sym (test .ensures) ∙ not-true (test .result) (c .if2 .taken)) (w .room)), refl)
 
 search-requires : tie.Need-search-requires
 search-requires c κs =
     let e = c .before .before .before .before .before .before .before .before .before in
-    long-of (entry (e .before .before .before .before .before .before .before .before .before .before)) (passed e)
+    let a = e .before .before in
+    record {
+      sheet = a .before .is-sheet .ensures .0 (not-false (a .before .is-sheet .result) (a .if1 .left));
+      room = long-of (entry (S (a .before))) (sym (e .before .long-enough .ensures) ∙ not-false (e .before .long-enough .result) (e .if2 .left));
+    }
 
 same-length : tie.Need-same-length
 same-length c = C c .search .kept .1 .0
@@ -60,15 +72,17 @@ same-length-8 c = C c .search .kept .1 .1 .1 .1 .1 .1 .1 .1 .0
 same-length-9 : tie.Need-same-length-9
 same-length-9 c = C c .search .kept .1 .1 .1 .1 .1 .1 .1 .1 .1 .0
 
-returns-2 : tie.Need-returns-2
-returns-2 c = C c .search .ensures
+returns-3 : tie.Need-returns-3
+returns-3 c = C c .search .ensures
 
 pub explore-spec : {M : Type 1} → statement M
 explore-spec =
     tie.close
     (tie.spec
-    long-enough-requires
+    is-sheet-requires
     returns
+    long-enough-requires
+    returns-2
     search-requires
     same-length
     same-length-2
@@ -79,4 +93,4 @@ explore-spec =
     same-length-7
     same-length-8
     same-length-9
-    returns-2)
+    returns-3)

@@ -9,15 +9,15 @@ use Rattle.step.proofs.edge_from.Tie as tie
 cast-if1 : tie.Need-cast-if1
 cast-if1 c = search needs
 
-refused-requires : tie.Need-refused-requires
-refused-requires c κs = search needs
+not-allowed-requires : tie.Need-not-allowed-requires
+not-allowed-requires c κs = search needs
 
 returns : tie.Need-returns
 returns c =
     let args = c .before .before .before .args in
     let pre = c .before .before .before .pre in
     let if1 = c .before .if1 in
-    c .refused .ensures ∙ no-edge (args .sheet) (args .number) (args .e) (pre) (omega (arith, if1 .taken))
+    c .not-allowed .ensures ∙ no-edge (args .sheet) (args .number) (args .e) (pre) (omega (arith, if1 .taken))
 
 edge-of-requires : tie.Need-edge-of-requires
 edge-of-requires c κs = search needs
@@ -43,7 +43,7 @@ edge-from-spec =
     tie.close
     (tie.spec
     cast-if1
-    refused-requires
+    not-allowed-requires
     returns
     edge-of-requires
     location-of-requires

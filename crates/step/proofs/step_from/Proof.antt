@@ -21,8 +21,8 @@ move-step-requires c κs = search needs
 edge-from-requires : tie.Need-edge-from-requires
 edge-from-requires c κs = search needs
 
-refused-requires : tie.Need-refused-requires
-refused-requires c κs = search needs
+not-allowed-requires : tie.Need-not-allowed-requires
+not-allowed-requires c κs = search needs
 
 returns : tie.Need-returns
 returns c =
@@ -47,7 +47,7 @@ returns-4 : tie.Need-returns-4
 returns-4 c =
     let args = c .before .before .before .args in
     let match = c .before .before .match in
-    c .refused .ensures ∙ no-code (args .sheet) (args .number) (args .code) (omega arith) (match .rest .0 .1) (match .rest .1)
+    c .not-allowed .ensures ∙ no-code (args .sheet) (args .number) (args .code) (omega arith) (match .rest .0 .1) (match .rest .1)
 
 pub step-from-spec : {M : Type 1} → statement M
 step-from-spec =
@@ -58,7 +58,7 @@ step-from-spec =
     location-at-requires-2
     move-step-requires
     edge-from-requires
-    refused-requires
+    not-allowed-requires
     returns
     returns-2
     returns-3

@@ -14,6 +14,7 @@ use Rattle.explore.proofs.StepLaws.{start-zero, not-here}
 use Rattle.explore.proofs.CountLaws.{first, within, turns-fit, edge-place, edge-offset, location-offset, hint-offset}
 use Rattle.explore.proofs.SearchLaws.{begin, skip, done, filled}
 use Rattle.explore.proofs.EnterLaws.{small, no-arc, stopped, known-node, new-node}
+use Rattle.explore.proofs.AnswerLaws.{too-many-answered, graph-answered}
 use Rattle.explore.proofs.search.search.Statement.{statement}
 use Rattle.explore.proofs.search.search.Tie as tie
 use Rattle.explore.proofs.search.search.Proof.Places.{Inv-loop, μ-loop, P, J, E, F, T, Q, L, B, S, entry, here, after, long, numbers, record-is, turn, pushed, kept}
@@ -25,18 +26,18 @@ by-byte-requires : tie.Need-by-byte-requires Inv-loop μ-loop
 by-byte-requires c κs = tt
 
 slice-write-nodes : tie.Need-slice-write-nodes Inv-loop μ-loop
-slice-write-nodes c = first _ (c .before .before .before .before .before .before .before .before .before .before .before .before .pre .node)
+slice-write-nodes c = first _ (c .before .before .before .before .before .before .before .before .before .before .before .before .pre .room .node)
 
 slice-write-sorted : tie.Need-slice-write-sorted Inv-loop μ-loop
-slice-write-sorted c = first _ (c .before .before .before .before .before .before .before .before .before .before .before .before .pre .sorted)
+slice-write-sorted c = first _ (c .before .before .before .before .before .before .before .before .before .before .before .before .pre .room .sorted)
 
 slice-write-order : tie.Need-slice-write-order Inv-loop μ-loop
-slice-write-order c = first _ (c .before .before .before .before .before .before .before .before .before .before .before .before .pre .order)
+slice-write-order c = first _ (c .before .before .before .before .before .before .before .before .before .before .before .before .pre .room .order)
 
 loop-holds : tie.Need-loop-holds Inv-loop μ-loop
 loop-holds c =
     let s = c .before .before .before .before .before .before .before .before .before .before .before .before in (
-      begin _ _ (entry s) (s .pre) (start-zero (decodedMeaning (s .args .sheet))),
+      begin _ _ (entry s) (s .pre .room) (start-zero (decodedMeaning (s .args .sheet))),
       record { nodes = refl; sorted = refl; order = refl; tree = refl; from = refl; to = refl; code = refl; cost = refl; reward = refl },
     )
 
@@ -84,7 +85,7 @@ array-copy-out-location : tie.Need-array-copy-out-location Inv-loop μ-loop
 array-copy-out-location c = c .location-of .ensures .0
 
 step-at-requires : tie.Need-step-at-requires Inv-loop μ-loop
-step-at-requires c κs = numbers (c .before .before .before .before .before .before) .code
+step-at-requires c κs = tt
 
 loop-less-2 : tie.Need-loop-less-2 Inv-loop μ-loop
 loop-less-2 c = numbers (Q (c .before .before)) .less
@@ -141,7 +142,8 @@ returns : tie.Need-returns Inv-loop μ-loop
 returns c =
     let e = F c in
     let a = T e in
-    (S (L a) .pre, stopped (turn a) (e .before .before .before .before .before .before .if2 .left) _ _ _ _ _ (e .enter .ensures) (c .if3 .taken))
+    too-many-answered (S (L a) .args .sheet) (entry (S (L a))) _ (S (L a) .pre)
+    (stopped (turn a) (e .before .before .before .before .before .before .if2 .left) _ _ _ _ _ (e .enter .ensures) (c .if3 .taken))
 
 join-requires : tie.Need-join-requires Inv-loop μ-loop
 join-requires c κs =
@@ -222,7 +224,9 @@ same-length-18 c = c .before .loop .inv .1 .reward
 returns-2 : tie.Need-returns-2 Inv-loop μ-loop
 returns-2 c =
     let l = c .before in
-    (S l .pre, done _ _ _ _ _ _ _ (code-below firstLayout (decodedMeaning (S l .args .sheet))) (l .loop .inv .0) (c .loop-test .left), filled _ _ (entry (S l)) _ _ _ _ (l .loop .inv .0))
+    graph-answered (S l .args .sheet) (entry (S l)) (here l) (S l .pre) _ _
+    (done _ _ _ _ _ _ _ (code-below firstLayout (decodedMeaning (S l .args .sheet))) (l .loop .inv .0) (c .loop-test .left))
+    (filled _ _ (entry (S l)) _ _ _ _ (l .loop .inv .0))
 
 pub search-spec : {M : Type 1} → statement M
 search-spec =

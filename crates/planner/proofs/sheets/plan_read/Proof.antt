@@ -10,7 +10,6 @@ use Rattle.contract.specs.Plan as Contract
 use Rattle.contract.specs.Plan.{SameLengths}
 use Rattle.contract.proofs.Exits.{too-many-nodes}
 use Rattle.contract.proofs.Graphs.{Room}
-use Rattle.contract.specs.Explored.{stepRead, startRead}
 use Rattle.explore.specs.Answer.{ExploreAnswered}
 use Rattle.explore.specs.Buffers.{GraphBuffers, graphBuffers, found}
 use Rattle.planner.specs.ContractTerms.{lentBuffers}
@@ -44,8 +43,7 @@ B c =
     graphBuffers (l .0) (l .1 .0) (l .1 .1 .0) (l .1 .1 .1 .0) (arcs .0) (arcs .1 .0) (arcs .1 .1 .0) (arcs .1 .1 .1 .0) (arcs .1 .1 .1 .1 .0)
 
 -- its answer, told once
-told : (x : tie.After-explore)
-    → ExploreAnswered (stepRead (S x .args .read)) (startRead (S x .args .read)) (fresh (now (S x .args .nodes))) (B x) (x .explore .result)
+told : (x : tie.After-explore) → ExploreAnswered (S x .args .read) (fresh (now (S x .args .nodes))) (B x) (x .explore .result)
 told x = x .explore .ensures
 
 -- the three buffers that were lent to this function, and as they are after `explore`
@@ -217,7 +215,7 @@ same-length-5 c = same (E (c .before .before .before)) .nodes
 returns-3 : tie.Need-returns-3
 returns-3 c =
     let x = E (c .before .before .before) in
-    absurd (never (S x .args .read) (now (S x .args .nodes)) (B x) (x .explore .result) (told x) (c .before .enum-told2 .given .1) (S x .pre .1 .nodes))
+    absurd (never (S x .args .read) (now (S x .args .nodes)) (B x) (x .explore .result) (told x) (c .before .enum-told2 .given .1) (S x .pre .0) (S x .pre .1 .nodes))
 
 pub plan-read-spec : {M : Type 1} → statement M
 plan-read-spec =

@@ -99,7 +99,7 @@ after c =
     graphBuffers (v .0) (v .1 .0) (v .1 .1 .0) (v .1 .1 .1 .0) (j .0) (j .1 .0) (j .1 .1 .0) (p .0) (p .1 .0)
 
 pub long : (c : tie.At-loop Inv-loop μ-loop) → HasRoom (here c)
-long c = long-kept (entry (S c)) (here c) (c .loop .inv .1) (S c .pre)
+long c = long-kept (entry (S c)) (here c) (c .loop .inv .1) (S c .pre .room)
 
 pub numbers : (c : tie.In-loop Inv-loop μ-loop) → let l = c .before .loop in Counts (l .n) (l .m) (l .t)
 numbers c = let l = c .before .loop in counts (l .n) (l .m) (l .t) (l .inv .0 .few-nodes) (l .inv .0 .few-arcs) (c .loop-test .taken)
