@@ -4,33 +4,55 @@ use mathlib.Core.List.{List}
 use Prim.Native.Nat.{ℕ, _≤_, _<_}
 use native.Mathlib.Omega.{arith}
 use lib.IntN.{ℤ, pos}
-use lib.ListN.{length, take, replicate}
+use lib.ListN.{length, take, replicate, length-replicate}
 use lib.Seq.{length-take-le, getD-take}
 use mir.Syntax.{w64}
 use mir.Val.{toZ, ofZ}
 use mir.ValLaws.{toZ-ofZ}
 use Rattle.integers.proofs.Machine.{small}
 use Rattle.walks.specs.Walk.{at}
-use Rattle.walks.specs.Cycles.{Acyclic, Idle}
+use Rattle.walks.specs.Cycles.{Acyclic, EachEarns, Idle}
 use Rattle.walks.proofs.Walks.{walk-arc}
 use Rattle.ratio.specs.Answer.{RatioFound, RatioAnswered}
 use Rattle.ratio.specs.declared.Verdict.{Verdict}
 use Rattle.ratio.specs.declared.Verdict.the-variants.{Malformed, NoCycle, NoReward, Ratio}
-use Rattle.ratio.proofs.VerdictLaws.{room}
+use Rattle.ratio.proofs.VerdictLaws.{room, numbered-13, numbered-14, numbered-0}
 use Rattle.contract.specs.Plan.{Answer, refusedPlan, Buffers, zeros, SameLengths, Planned}
 use Rattle.planner.specs.ContractTerms.{lentBuffers}
 use Rattle.planner.specs.PrivatePromises.{Handed, Cyclic, PlannedButForClearing}
 
 -- ---- what is settled
 module _ {bytes : List ℕ} {before after : Buffers} {a : Answer} where
-  pub settled-refused : (r : ℕ) → a ≡ refusedPlan r → 0 < r → Planned bytes before (zeros before) (refusedPlan r) → PlannedButForClearing bytes before after a
-  settled-refused r e h w = record {
-    planned = λ z. absurd (omega (arith, ap (λ (x : Answer). x .refusal) e));
-    cleared = λ _. rw (ap (λ (x : Answer). x .refusal) e) w;
-  }
+  pub settled-planned : Planned bytes before after a → PlannedButForClearing bytes before after a
+  settled-planned w = record { judged = w .judged; numbers = w .numbers; kept = w .kept; accepted = λ _. w }
 
-  pub settled-accepted : a .refusal ≡ 0 → Planned bytes before after a → PlannedButForClearing bytes before after a
-  settled-accepted e w = record { planned = λ _. w; cleared = λ n. absurd (n e) }
+  -- a refusal after which the buffers are still to be cleared
+  pub settled-refused : (r : ℕ) → a ≡ refusedPlan r → 12 ≤ r → Planned bytes before (zeros before) (refusedPlan r) → PlannedButForClearing bytes before after a
+  settled-refused r e h w = record {
+    judged = rw number (w .judged);
+    numbers = λ _. e ∙ ap refusedPlan (sym number);
+    kept = λ _ low. absurd (omega (arith, number));
+    accepted = λ z. absurd (omega (arith, number));
+  }
+    where
+      number : a .refusal ≡ r
+      number = ap (λ (x : Answer). x .refusal) e
+
+-- a refusal with nothing written
+pub settled-kept : {bytes : List ℕ} (before : Buffers) {r : ℕ} {a : Answer} → a ≡ refusedPlan r → Planned bytes before before (refusedPlan r)
+    → PlannedButForClearing bytes before before a
+settled-kept {bytes} before e w = settled-planned (subst (Planned bytes before before) (sym e) w)
+
+-- an answer with the number that is due
+pub due-number : {x r : ℕ} {a : Answer} → a ≡ refusedPlan x → x ≡ r → a ≡ refusedPlan r
+due-number e n = e ∙ ap refusedPlan n
+
+pub zero-lengths : (b : Buffers) → SameLengths (zeros b) b
+zero-lengths b = record {
+  nodes = length-replicate (length (b .nodes)) 0;
+  potentials = length-replicate (length (b .potentials)) (pos 0);
+  steps = length-replicate (length (b .steps)) 0;
+}
 
 -- a refusal, once the buffers are cleared
 pub refused-planned : {bytes : List ℕ} {before : Buffers} {N : List ℕ} {P : List ℤ} {S N' : List ℕ} {P' : List ℤ} {S' : List ℕ} {r : ℕ} {a : Answer}
@@ -49,14 +71,17 @@ module _ {F T C : List ℕ} {Z : List ℤ} {R order tree : List ℕ} {n : ℕ} (
       (record { graph = h .graph; potential-room = room 2048 (pos 0) (h .graph .nodes); cycle-room = room {A = ℕ} 2048 0 (h .graph .nodes) })
 
   pub acyclic : W ≡ NoCycle → Acyclic F T (length F)
-  acyclic e = subst Is e z .1
+  acyclic e = numbered-13 (subst Is e z .0 .1)
 
   pub idle : W ≡ NoReward → Idle F T (length F) R
-  idle e = subst Is e z .1
+  idle e = numbered-14 (subst Is e z .0 .1)
 
   module _ (p : ℤ) (q k : ℕ) (e : W ≡ Ratio p q k) where
     pub least : RatioFound F T Z R n p q k (replicate 2048 (pos 0)) D (replicate 2048 0) cycle
     least = subst Is e z .1
+
+    pub each-earns : EachEarns F T (length F) R
+    each-earns = numbered-0 (subst Is e z .0 .1)
 
     -- with the numerator as it is read back
     pub least-again : RatioFound F T Z R n (toZ w64 (ofZ w64 p)) q k (replicate 2048 (pos 0)) D (replicate 2048 0) cycle
