@@ -1,10 +1,10 @@
 -- What `least_ratio` answered of the graph, and the ways out with a refusal.
-use mathlib.Core.Path.{_≡_, sym, ap, _∙_, subst}
+use mathlib.Core.Path.{_≡_, refl, sym, ap, _∙_, subst}
 use mathlib.Core.List.{List}
 use Prim.Native.Nat.{ℕ, _≤_, _<_}
 use native.Mathlib.Omega.{arith}
 use lib.IntN.{ℤ, pos}
-use lib.ListN.{length, take, replicate, length-replicate}
+use lib.ListN.{length, take, replicate}
 use lib.Seq.{length-take-le, getD-take}
 use mir.Syntax.{w64}
 use mir.Val.{toZ, ofZ}
@@ -17,7 +17,7 @@ use Rattle.ratio.specs.Answer.{RatioFound, RatioAnswered}
 use Rattle.ratio.specs.declared.Verdict.{Verdict}
 use Rattle.ratio.specs.declared.Verdict.the-variants.{Malformed, NoCycle, NoReward, Ratio}
 use Rattle.ratio.proofs.VerdictLaws.{room, numbered-13, numbered-14, numbered-0}
-use Rattle.contract.specs.Plan.{Answer, refusedPlan, Buffers, zeros, SameLengths, Planned}
+use Rattle.contract.specs.Plan.{Answer, refusedPlan, Buffers, zeros, SameLengths, Judged, Planned}
 use Rattle.planner.specs.ContractTerms.{lentBuffers}
 use Rattle.planner.specs.PrivatePromises.{Handed, Cyclic, PlannedButForClearing}
 
@@ -47,19 +47,24 @@ settled-kept {bytes} before e w = settled-planned (subst (Planned bytes before b
 pub due-number : {x r : ℕ} {a : Answer} → a ≡ refusedPlan x → x ≡ r → a ≡ refusedPlan r
 due-number e n = e ∙ ap refusedPlan n
 
-pub zero-lengths : (b : Buffers) → SameLengths (zeros b) b
-zero-lengths b = record {
-  nodes = length-replicate (length (b .nodes)) 0;
-  potentials = length-replicate (length (b .potentials)) (pos 0);
-  steps = length-replicate (length (b .steps)) 0;
-}
+-- the buffers, once they are cleared
+pub all-zero : {before : Buffers} {N : List ℕ} {P : List ℤ} {S N' : List ℕ} {P' : List ℤ} {S' : List ℕ} → SameLengths (lentBuffers N P S) before
+    → N' ≡ replicate (length N) 0 → P' ≡ replicate (length P) (pos 0) → S' ≡ replicate (length S) 0 → lentBuffers N' P' S' ≡ zeros before
+all-zero l en ep es =
+    rw (en ∙ ap (λ (n : ℕ). replicate n 0) (l .nodes), ep ∙ ap (λ (n : ℕ). replicate n (pos 0)) (l .potentials), es ∙ ap (λ (n : ℕ). replicate n 0) (l .steps)) refl
 
--- a refusal, once the buffers are cleared
-pub refused-planned : {bytes : List ℕ} {before : Buffers} {N : List ℕ} {P : List ℤ} {S N' : List ℕ} {P' : List ℤ} {S' : List ℕ} {r : ℕ} {a : Answer}
-    → SameLengths (lentBuffers N P S) before → N' ≡ replicate (length N) 0 → P' ≡ replicate (length P) (pos 0) → S' ≡ replicate (length S) 0 → a ≡ refusedPlan r
-    → Planned bytes before (zeros before) (refusedPlan r) → Planned bytes before (lentBuffers N' P' S') a
-refused-planned l en ep es ea h =
-    rw (en ∙ ap (λ (n : ℕ). replicate n 0) (l .nodes), ep ∙ ap (λ (n : ℕ). replicate n (pos 0)) (l .potentials), es ∙ ap (λ (n : ℕ). replicate n 0) (l .steps), ea) h
+-- a refusal after which every entry is 0
+pub refused-planned : {bytes : List ℕ} {before after : Buffers} {r : ℕ} {a : Answer} → a ≡ refusedPlan r → Judged bytes before r
+    → (0 < r → r ≤ 11 → after ≡ before) → after ≡ zeros before → SameLengths after before → 0 < r → Planned bytes before after a
+refused-planned e j kept zero same some = rw e record {
+  judged = j;
+  numbers = λ _. refl;
+  kept = kept;
+  cleared = λ _. zero;
+  lengths = same;
+  accepted = λ z. absurd (omega arith);
+  no-loop-below = λ z. absurd (omega arith);
+}
 
 module _ {F T C : List ℕ} {Z : List ℤ} {R order tree : List ℕ} {n : ℕ} (h : Handed F T C Z R order tree n) (D : List ℤ) (cycle : List ℕ) (W : Verdict)
     (z : RatioAnswered F T Z R n (replicate 2048 (pos 0)) D (replicate 2048 0) cycle W) where

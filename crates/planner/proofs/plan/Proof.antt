@@ -1,11 +1,12 @@
 -- The questions, and the clearing on 12 to 14.
-use mathlib.Core.Path.{refl}
+use mathlib.Core.Path.{_≡_, _∙_}
+use Prim.Native.Nat.{_≤_, _<_}
 use native.Mathlib.Omega.{arith}
 use denote.Ref.{now}
 use Rattle.contract.specs.Plan.{Buffers, SameLengths}
 use Rattle.planner.specs.ContractTerms.{lentBuffers, answerOf}
 use Rattle.planner.specs.PrivatePromises.{PlannedButForClearing}
-use Rattle.planner.proofs.GraphLaws.{zero-lengths, refused-planned}
+use Rattle.planner.proofs.GraphLaws.{all-zero, refused-planned}
 use borrow.Author.Needs.{needs}
 use Rattle.planner.proofs.plan.Statement.{statement}
 use Rattle.planner.proofs.plan.Tie as tie
@@ -48,15 +49,13 @@ returns c =
     let w = f .refuse .ensures in
     let p = f .before .before .before .before .before .before .before .before .before .before .before in
     let high = f .before .before .before .before .if1 .taken in
-    refused-planned (same p) (w .1 .0) (w .1 .1 .0) (w .1 .1 .1) (w .0) record {
-      judged = settled p .judged;
-      numbers = λ _. refl;
-      kept = λ _ low. absurd (omega (arith, high));
-      cleared = λ _. refl;
-      lengths = zero-lengths (before p);
-      accepted = λ z. absurd (omega (arith, high));
-      no-loop-below = λ z. absurd (omega (arith, high));
-    }
+    let k = f .refuse .kept .1 in
+    let r = p .ask .result .refusal in
+    let l = f .refuse .last .1 in
+    let left = lentBuffers (l .0) (l .1 .0) (l .1 .1 .0) in
+    let kept : 0 < r → r ≤ 11 → left ≡ before p = λ _ low. absurd (omega (arith, high)) in
+    refused-planned (w .0) (settled p .judged) kept (all-zero (same p) (w .1 .0) (w .1 .1 .0) (w .1 .1 .1))
+    (record { nodes = k .0 ∙ same p .nodes; potentials = k .1 .0 ∙ same p .potentials; steps = k .1 .1 .0 ∙ same p .steps }) (omega (arith, high))
 
 same-length-4 : tie.Need-same-length-4
 same-length-4 c = search needs
