@@ -11,7 +11,7 @@ use Rattle.walks.specs.Lasso.{ArcLasso, Tree, Stem}
 use Rattle.walks.proofs.Walks.{Cut, cut, walk-first}
 use Rattle.walks.proofs.Lassos.{lasso, join-at}
 use Rattle.walks.proofs.Trees.{slice-join, take-part}
-use Rattle.lasso.specs.Answer.{LassoArguments, LaidOut}
+use Rattle.lasso.specs.Answer.{LassoArguments, AlongTree, LaidOut}
 
 -- what is behind a copy stays
 behind : (d : List ℕ) (start : ℕ) (s : List ℕ) (n j : ℕ) → start ≤ length d → n ≤ length s → start + n ≤ j → drop j (paste d start s n) ≡ drop j d
@@ -59,9 +59,9 @@ module _ (d x y z : List ℕ) (a b c : ℕ) (hx : length x ≡ a) (hy : length y
       ∙ behind d 0 x a (a + k) (omega arith) (omega arith) (omega arith)
 
 -- a simple cycle laid out so is a lasso
-pub lasso-laid : (F T cycle : List ℕ) (n k s : ℕ) (arcs arcs' : List ℕ) (x : ℕ) → k ≤ length cycle → LaidOut F T cycle n k s arcs arcs'
+pub lasso-laid : (F T tree cycle : List ℕ) (n k s : ℕ) (arcs arcs' : List ℕ) (x : ℕ) → k ≤ length cycle → LaidOut F T tree cycle n k s arcs arcs'
     → ArcWalk F T (length F) x (take k cycle) x → Distinct F (take k cycle) → ArcLasso F T (length F) (take s arcs') (slice s (s + k) arcs')
-lasso-laid F T cycle n k s arcs arcs' x hk l w d =
+lasso-laid F T tree cycle n k s arcs arcs' x hk l w d =
     subst (ArcLasso F T (length F) (take s arcs')) (sym (l .turned))
     (lasso F T (length F) (take s arcs') p q x (at F (at cycle t)) (l .stem .walk) (l .stem .rising) (subst (ArcWalk F T (length F) x p) (sym here) (parts .left))
     (subst (λ (y : ℕ). ArcWalk F T (length F) y q x) (sym here) (parts .right)) (omega (arith, long-q, l .below)) (subst (Distinct F) split d) first)
@@ -116,17 +116,20 @@ part-is : (a n : ℕ) (l : List ℕ) → a + n ≤ length l → take n (drop a l
 part-is a n l h = ap (λ (x : List ℕ). take n (drop a x)) (sym (take-length l)) ∙ take-part a n (length l) l h
 
 -- what the three copies come to
-pub laid-out : (F T cycle order arcs arcs1 arcs2 arcs3 : List ℕ) (n k top turn s : ℕ) → length order ≡ 2048 → top ≤ 2048 → 2048 ≤ top + n → s ≡ 2048 - top
+pub laid-out : (F T tree cycle order arcs arcs1 arcs2 arcs3 : List ℕ) (n k top turn s : ℕ) → length order ≡ 2048 → top ≤ 2048 → 2048 ≤ top + n → s ≡ 2048 - top
     → turn < k → k ≤ length cycle → n + k ≤ length arcs → ((i : ℕ) → i < k → at F (at cycle turn) ≤ at F (at cycle i))
-    → Stem F T (length F) 0 (slice top (length order) order) (at F (at cycle turn))
+    → ((i : ℕ) → i < turn → at F (at cycle turn) < at F (at cycle i))
+    → Stem F T (length F) 0 (slice top (length order) order) (at F (at cycle turn)) → AlongTree T tree (slice top (length order) order)
     → arcs1 ≡ paste arcs 0 (take (2048 - top) (drop top order)) s → arcs2 ≡ paste arcs1 s (take (k - turn) (drop turn cycle)) (k - turn)
-    → arcs3 ≡ paste arcs2 (s + (k - turn)) cycle turn → LaidOut F T cycle n k s arcs arcs3
-laid-out F T cycle order arcs arcs1 arcs2 arcs3 n k top turn s lo ht hn es hk hc room least stem e1 e2 e3 = record {
+    → arcs3 ≡ paste arcs2 (s + (k - turn)) cycle turn → LaidOut F T tree cycle n k s arcs arcs3
+laid-out F T tree cycle order arcs arcs1 arcs2 arcs3 n k top turn s lo ht hn es hk hc room least before stem along e1 e2 e3 = record {
   turn = turn;
   below = hk;
   first = least;
+  earliest = before;
   short = omega arith;
-  stem = subst (λ (l : List ℕ). Stem F T (length F) 0 l (at F (at cycle turn))) (sym (ap (take s) all ∙ laid-first arcs x y cycle s (k - turn) turn long-x long-y fits enough)) stem;
+  stem = subst (λ (l : List ℕ). Stem F T (length F) 0 l (at F (at cycle turn))) (sym front) stem;
+  along = subst (AlongTree T tree) (sym front) along;
   turned = ap (slice s (s + k)) all ∙ laid-rest arcs x y cycle s (k - turn) turn long-x long-y fits enough k (omega arith);
   rest = ap (drop (s + k)) all ∙ laid-behind arcs x y cycle s (k - turn) turn long-x long-y fits enough k (omega arith);
 }
@@ -159,3 +162,6 @@ laid-out F T cycle order arcs arcs1 arcs2 arcs3 n k top turn s lo ht hn es hk hc
     all : arcs3 ≡ paste (paste (paste arcs 0 x s) s y (k - turn)) (s + (k - turn)) cycle turn
     all = e3 ∙ ap (λ (l : List ℕ). paste l (s + (k - turn)) cycle turn)
         (e2 ∙ ap₂ (λ (l r : List ℕ). paste l s r (k - turn)) (e1 ∙ ap (λ (r : List ℕ). paste arcs 0 r s) is-x) is-y)
+
+    front : take s arcs3 ≡ x
+    front = ap (take s) all ∙ laid-first arcs x y cycle s (k - turn) turn long-x long-y fits enough

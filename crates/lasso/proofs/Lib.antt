@@ -1,2 +1,3 @@
 pub mod Passing
 pub mod Laying
+pub mod OneLasso

@@ -1,6 +1,6 @@
 -- What `lasso_of` answers. The buffer as the call finds it is `arcs`, and as it leaves it `arcs'`.
 use mathlib.Core.Path.{_≡_}
-use mathlib.Core.List.{List, _++_}
+use mathlib.Core.List.{List, [], _∷_, _++_}
 use Prim.Native.Nat.{ℕ, _+_, _≤_, _<_}
 use lib.ListN.{length, take, drop}
 use lib.Seq.{slice}
@@ -31,16 +31,25 @@ pub record LassoArguments (F T tree cycle : List ℕ) (n k room : ℕ) : Type 0 
   pub cycle-arcs : (i : ℕ) → i < k → CycleArc F cycle n i
   pub arcs-room : n + k ≤ room
 
--- s arcs of the tree, from node 0 to the first discovered of the cycle's nodes, and then the cycle, turned to begin there; nothing else is written
-pub record LaidOut (F T cycle : List ℕ) (n k s : ℕ) (arcs arcs' : List ℕ) : Type 0 where
+-- each arc of the list is the tree's arc to the node that it leads to
+abbrev pub AlongTree : List ℕ → List ℕ → List ℕ → Type 0
+AlongTree T tree [] = Unit {0}
+AlongTree T tree (e ∷ l) = (at tree (at T e) ≡ e) × AlongTree T tree l
+
+-- s arcs of the tree, from node 0 to the first discovered of the cycle's nodes, and then the cycle, turned to begin there; nothing else is written.
+-- This fixes s and every entry: lasso/proofs/OneLasso.antt.
+pub record LaidOut (F T tree cycle : List ℕ) (n k s : ℕ) (arcs arcs' : List ℕ) : Type 0 where
   pub turn : ℕ
   pub below : turn < k
   pub first : (i : ℕ) → i < k → at F (at cycle turn) ≤ at F (at cycle i)
+  -- of several arcs that leave that node, the first
+  pub earliest : (i : ℕ) → i < turn → at F (at cycle turn) < at F (at cycle i)
   pub short : s ≤ n
   pub stem : Stem F T (length F) 0 (take s arcs') (at F (at cycle turn))
+  pub along : AlongTree T tree (take s arcs')
   pub turned : slice s (s + k) arcs' ≡ slice turn k cycle ++ take turn cycle
   pub rest : drop (s + k) arcs' ≡ drop (s + k) arcs
 
 abbrev pub LassoAnswered : List ℕ → List ℕ → List ℕ → List ℕ → ℕ → ℕ → List ℕ → List ℕ → Answer → Type 0
 LassoAnswered F T tree cycle n k arcs arcs' Malformed = (LassoArguments F T tree cycle n k (length arcs) → ⊥) × (arcs' ≡ arcs)
-LassoAnswered F T tree cycle n k arcs arcs' (Laid s) = LassoArguments F T tree cycle n k (length arcs) × LaidOut F T cycle n k s arcs arcs'
+LassoAnswered F T tree cycle n k arcs arcs' (Laid s) = LassoArguments F T tree cycle n k (length arcs) × LaidOut F T tree cycle n k s arcs arcs'

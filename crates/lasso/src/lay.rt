@@ -5,14 +5,15 @@ ghost use lib.ListN.{length};
 ghost use lib.Seq.{slice, paste};
 ghost use Rattle.walks.specs.Walk.{at};
 ghost use Rattle.walks.specs.Lasso.{Tree, Stem};
-ghost use Rattle.lasso.specs.Answer.{LassoArguments, LaidOut};
+ghost use Rattle.lasso.specs.Answer.{LassoArguments, AlongTree, LaidOut};
 use crate::form::node;
 
 // The tree's arcs from node 0 to h, at the end of order; where they begin.
 fn stem(from: &[u16], tree: &[usize], nodes: usize, order: &mut [usize], h: usize) -> usize
     requires { ⌜ Tree (now from) (now tree) nodes ⌝ ∗ ⌜ h < nodes ⌝ ∗ ⌜ nodes ≤ length (now tree) ⌝ ∗ ⌜ nodes ≤ length (now order) ⌝ }
     ensures { λ top. ⌜ top ≤ length (now (order .entry)) ⌝ ∗ ⌜ length (now (order .entry)) ≤ top + nodes ⌝
-        ∗ ⌜ ((g : Tree (now (from .entry)) (now (tree .entry)) nodes) → Stem (now (from .entry)) (g .T) (g .m) 0 (slice top (length (now (order .exit))) (now (order .exit))) h) ⌝ }
+        ∗ ⌜ ((g : Tree (now (from .entry)) (now (tree .entry)) nodes) → Stem (now (from .entry)) (g .T) (g .m) 0 (slice top (length (now (order .exit))) (now (order .exit))) h
+        × AlongTree (g .T) (now (tree .entry)) (slice top (length (now (order .exit))) (now (order .exit)))) ⌝ }
 {
     let mut x = h;
     let mut top = order.len();
@@ -25,10 +26,11 @@ fn stem(from: &[u16], tree: &[usize], nodes: usize, order: &mut [usize], h: usiz
     top
 }
 
-// The place of the arc that leaves the first discovered node.
+// The place of the first arc that leaves the first discovered node.
 fn first(from: &[u16], cycle: &[usize], k: usize) -> usize
     requires { ⌜ 0 < k ⌝ ∗ ⌜ k ≤ length (now cycle) ⌝ ∗ ⌜ ((i : ℕ) → i < k → at (now cycle) i < length (now from)) ⌝ }
-    ensures { λ t. ⌜ t < k ⌝ ∗ ⌜ ((i : ℕ) → i < k → at (now (from .entry)) (at (now (cycle .entry)) t) ≤ at (now (from .entry)) (at (now (cycle .entry)) i)) ⌝ }
+    ensures { λ t. ⌜ t < k ⌝ ∗ ⌜ ((i : ℕ) → i < k → at (now (from .entry)) (at (now (cycle .entry)) t) ≤ at (now (from .entry)) (at (now (cycle .entry)) i)) ⌝
+        ∗ ⌜ ((i : ℕ) → i < t → at (now (from .entry)) (at (now (cycle .entry)) t) < at (now (from .entry)) (at (now (cycle .entry)) i)) ⌝ }
 {
     let mut t = 0;
     let mut best = node(from, cycle[0]);
@@ -68,7 +70,7 @@ pub(crate) fn lay_out(
     arcs: &mut [usize],
 ) -> usize
     requires { ⌜ LassoArguments (now from) (now to) (now tree) (now cycle) nodes k (length (now arcs)) ⌝ }
-    ensures { λ s. ⌜ LaidOut (now (from .entry)) (now (to .entry)) (now (cycle .entry)) nodes k s (now (arcs .entry)) (now (arcs .exit)) ⌝ }
+    ensures { λ s. ⌜ LaidOut (now (from .entry)) (now (to .entry)) (now (tree .entry)) (now (cycle .entry)) nodes k s (now (arcs .entry)) (now (arcs .exit)) ⌝ }
 {
     let mut order = [0usize; 2048];
     let turn = first(from, cycle, k);

@@ -1,5 +1,5 @@
 -- What `least_ratio` answered of the graph, and the ways out with a refusal.
-use mathlib.Core.Path.{_≡_, sym, ap, _∙_, subst}
+use mathlib.Core.Path.{_≡_, refl, sym, ap, _∙_, subst}
 use mathlib.Core.List.{List}
 use Prim.Native.Nat.{ℕ, _≤_, _<_}
 use native.Mathlib.Omega.{arith}
@@ -11,33 +11,60 @@ use mir.Val.{toZ, ofZ}
 use mir.ValLaws.{toZ-ofZ}
 use Rattle.integers.proofs.Machine.{small}
 use Rattle.walks.specs.Walk.{at}
-use Rattle.walks.specs.Cycles.{Acyclic, Idle}
+use Rattle.walks.specs.Cycles.{Acyclic, EachEarns, Idle}
 use Rattle.walks.proofs.Walks.{walk-arc}
 use Rattle.ratio.specs.Answer.{RatioFound, RatioAnswered}
 use Rattle.ratio.specs.declared.Verdict.{Verdict}
 use Rattle.ratio.specs.declared.Verdict.the-variants.{Malformed, NoCycle, NoReward, Ratio}
-use Rattle.ratio.proofs.VerdictLaws.{room}
-use Rattle.contract.specs.Plan.{Answer, refusedPlan, Buffers, zeros, SameLengths, Planned}
+use Rattle.ratio.proofs.VerdictLaws.{room, numbered-13, numbered-14, numbered-0}
+use Rattle.contract.specs.Plan.{Answer, refusedPlan, Buffers, zeros, SameLengths, Judged, Planned}
 use Rattle.planner.specs.ContractTerms.{lentBuffers}
 use Rattle.planner.specs.PrivatePromises.{Handed, Cyclic, PlannedButForClearing}
 
 -- ---- what is settled
 module _ {bytes : List ℕ} {before after : Buffers} {a : Answer} where
-  pub settled-refused : (r : ℕ) → a ≡ refusedPlan r → 0 < r → Planned bytes before (zeros before) (refusedPlan r) → PlannedButForClearing bytes before after a
+  pub settled-planned : Planned bytes before after a → PlannedButForClearing bytes before after a
+  settled-planned w = record { judged = w .judged; numbers = w .numbers; kept = w .kept; accepted = λ _. w }
+
+  -- a refusal after which the buffers are still to be cleared
+  pub settled-refused : (r : ℕ) → a ≡ refusedPlan r → 12 ≤ r → Planned bytes before (zeros before) (refusedPlan r) → PlannedButForClearing bytes before after a
   settled-refused r e h w = record {
-    planned = λ z. absurd (omega (arith, ap (λ (x : Answer). x .refusal) e));
-    cleared = λ _. rw (ap (λ (x : Answer). x .refusal) e) w;
+    judged = rw number (w .judged);
+    numbers = λ _. e ∙ ap refusedPlan (sym number);
+    kept = λ _ low. absurd (omega (arith, number));
+    accepted = λ z. absurd (omega (arith, number));
   }
+    where
+      number : a .refusal ≡ r
+      number = ap (λ (x : Answer). x .refusal) e
 
-  pub settled-accepted : a .refusal ≡ 0 → Planned bytes before after a → PlannedButForClearing bytes before after a
-  settled-accepted e w = record { planned = λ _. w; cleared = λ n. absurd (n e) }
+-- a refusal with nothing written
+pub settled-kept : {bytes : List ℕ} (before : Buffers) {r : ℕ} {a : Answer} → a ≡ refusedPlan r → Planned bytes before before (refusedPlan r)
+    → PlannedButForClearing bytes before before a
+settled-kept {bytes} before e w = settled-planned (subst (Planned bytes before before) (sym e) w)
 
--- a refusal, once the buffers are cleared
-pub refused-planned : {bytes : List ℕ} {before : Buffers} {N : List ℕ} {P : List ℤ} {S N' : List ℕ} {P' : List ℤ} {S' : List ℕ} {r : ℕ} {a : Answer}
-    → SameLengths (lentBuffers N P S) before → N' ≡ replicate (length N) 0 → P' ≡ replicate (length P) (pos 0) → S' ≡ replicate (length S) 0 → a ≡ refusedPlan r
-    → Planned bytes before (zeros before) (refusedPlan r) → Planned bytes before (lentBuffers N' P' S') a
-refused-planned l en ep es ea h =
-    rw (en ∙ ap (λ (n : ℕ). replicate n 0) (l .nodes), ep ∙ ap (λ (n : ℕ). replicate n (pos 0)) (l .potentials), es ∙ ap (λ (n : ℕ). replicate n 0) (l .steps), ea) h
+-- an answer with the number that is due
+pub due-number : {x r : ℕ} {a : Answer} → a ≡ refusedPlan x → x ≡ r → a ≡ refusedPlan r
+due-number e n = e ∙ ap refusedPlan n
+
+-- the buffers, once they are cleared
+pub all-zero : {before : Buffers} {N : List ℕ} {P : List ℤ} {S N' : List ℕ} {P' : List ℤ} {S' : List ℕ} → SameLengths (lentBuffers N P S) before
+    → N' ≡ replicate (length N) 0 → P' ≡ replicate (length P) (pos 0) → S' ≡ replicate (length S) 0 → lentBuffers N' P' S' ≡ zeros before
+all-zero l en ep es =
+    rw (en ∙ ap (λ (n : ℕ). replicate n 0) (l .nodes), ep ∙ ap (λ (n : ℕ). replicate n (pos 0)) (l .potentials), es ∙ ap (λ (n : ℕ). replicate n 0) (l .steps)) refl
+
+-- a refusal after which every entry is 0
+pub refused-planned : {bytes : List ℕ} {before after : Buffers} {r : ℕ} {a : Answer} → a ≡ refusedPlan r → Judged bytes before r
+    → (0 < r → r ≤ 11 → after ≡ before) → after ≡ zeros before → SameLengths after before → 0 < r → Planned bytes before after a
+refused-planned e j kept zero same some = rw e record {
+  judged = j;
+  numbers = λ _. refl;
+  kept = kept;
+  cleared = λ _. zero;
+  lengths = same;
+  accepted = λ z. absurd (omega arith);
+  no-loop-below = λ z. absurd (omega arith);
+}
 
 module _ {F T C : List ℕ} {Z : List ℤ} {R order tree : List ℕ} {n : ℕ} (h : Handed F T C Z R order tree n) (D : List ℤ) (cycle : List ℕ) (W : Verdict)
     (z : RatioAnswered F T Z R n (replicate 2048 (pos 0)) D (replicate 2048 0) cycle W) where
@@ -49,14 +76,17 @@ module _ {F T C : List ℕ} {Z : List ℤ} {R order tree : List ℕ} {n : ℕ} (
       (record { graph = h .graph; potential-room = room 2048 (pos 0) (h .graph .nodes); cycle-room = room {A = ℕ} 2048 0 (h .graph .nodes) })
 
   pub acyclic : W ≡ NoCycle → Acyclic F T (length F)
-  acyclic e = subst Is e z .1
+  acyclic e = numbered-13 (subst Is e z .0 .1)
 
   pub idle : W ≡ NoReward → Idle F T (length F) R
-  idle e = subst Is e z .1
+  idle e = numbered-14 (subst Is e z .0 .1)
 
   module _ (p : ℤ) (q k : ℕ) (e : W ≡ Ratio p q k) where
     pub least : RatioFound F T Z R n p q k (replicate 2048 (pos 0)) D (replicate 2048 0) cycle
     least = subst Is e z .1
+
+    pub each-earns : EachEarns F T (length F) R
+    each-earns = numbered-0 (subst Is e z .0 .1)
 
     -- with the numerator as it is read back
     pub least-again : RatioFound F T Z R n (toZ w64 (ofZ w64 p)) q k (replicate 2048 (pos 0)) D (replicate 2048 0) cycle

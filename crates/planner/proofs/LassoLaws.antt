@@ -20,7 +20,7 @@ use Rattle.contract.proofs.Graphs.{exact-turned}
 use Rattle.planner.specs.PrivatePromises.{Cyclic, Pickable}
 
 module _ {F T C order tree cycle : List ℕ} {n k s : ℕ} {arcs arcs' : List ℕ} (c : Cyclic F T C order tree cycle n k)
-    (sized : length arcs' ≡ 4096) (laid : LaidOut F T cycle n k s arcs arcs') where
+    (sized : length arcs' ≡ 4096) (laid : LaidOut F T tree cycle n k s arcs arcs') where
   abbrev pub stem : List ℕ
   stem = take s arcs'
 
@@ -37,7 +37,7 @@ module _ {F T C order tree cycle : List ℕ} {n k s : ℕ} {arcs arcs' : List �
   turned-sized = length-slice s (s + k) arcs' (omega (arith, room)) ∙ omega arith
 
   pub is-lasso : ArcLasso F T (length F) stem turned
-  is-lasso = lasso-laid F T cycle n k s arcs arcs' (c .simple .hub) (c .formed .cycle-room) laid (c .simple .cycle .walk) (c .simple .simple)
+  is-lasso = lasso-laid F T tree cycle n k s arcs arcs' (c .simple .hub) (c .formed .cycle-room) laid (c .simple .cycle .walk) (c .simple .simple)
 
   pub short : s + k ≤ n
   short = omega (arith, lasso-short F T (length F) stem turned is-lasso n (c .sources), stem-sized, turned-sized)
@@ -77,5 +77,5 @@ module _ (F T tree cycle : List ℕ) (n k : ℕ) (arcs' : List ℕ) (A : Answer)
   never e w = subst (LassoAnswered F T tree cycle n k (replicate 4096 0) arcs') e z .0
       (subst (LassoArguments F T tree cycle n k) (sym (length-replicate {A = ℕ} 4096 0)) w)
 
-  pub laid-of : (s : ℕ) → A ≡ Laid s → LaidOut F T cycle n k s (replicate 4096 0) arcs'
+  pub laid-of : (s : ℕ) → A ≡ Laid s → LaidOut F T tree cycle n k s (replicate 4096 0) arcs'
   laid-of s e = subst (LassoAnswered F T tree cycle n k (replicate 4096 0) arcs') e z .1

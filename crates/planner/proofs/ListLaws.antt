@@ -8,7 +8,7 @@ use lib.Seq.{length-take-le, take-at, take-all, drop-length, getD-append-add, ge
 use Rattle.automaton.proofs.Tests.{by-order}
 use Rattle.walks.specs.Walk.{at}
 use Rattle.walks.proofs.Copies.{copy-more}
-use Rattle.planner.specs.PrivatePromises.{cleared, Picked, Pickable}
+use Rattle.planner.specs.PrivatePromises.{cleared, Cleared, Picked, Pickable}
 
 module _ {A : Type 0} (zero : A) (l : List A) (a : ℕ) (h : a ≤ length l) where
   abbrev s : List A
@@ -17,14 +17,14 @@ module _ {A : Type 0} (zero : A) (l : List A) (a : ℕ) (h : a ≤ length l) whe
   front-sized : length (take a l) ≡ a
   front-sized = length-take-le a l h
 
-  pub cleared-sized : length (cleared zero l a) ≡ length l
+  cleared-sized : length (cleared zero l a) ≡ length l
   cleared-sized = length-append (take a l) (replicate (length l - a) zero) ∙ omega (arith, front-sized, length-replicate (length l - a) zero)
 
-  pub cleared-front : (i : ℕ) → i < a → getD (cleared zero l a) i zero ≡ getD l i zero
+  cleared-front : (i : ℕ) → i < a → getD (cleared zero l a) i zero ≡ getD l i zero
   cleared-front i k = sym (getD-take a (cleared zero l a) i zero k)
       ∙ ap (λ (x : List A). getD x i zero) (take-at (take a l) (replicate (length l - a) zero) a front-sized) ∙ getD-take a l i zero k
 
-  pub cleared-rest : (i : ℕ) → a ≤ i → i < length l → getD (cleared zero l a) i zero ≡ zero
+  cleared-rest : (i : ℕ) → a ≤ i → i < length l → getD (cleared zero l a) i zero ≡ zero
   cleared-rest i k m =
       let e : length (take a l) + (i - a) ≡ i = omega (arith, front-sized) in
       ap (λ (j : ℕ). getD (cleared zero l a) j zero) (sym e) ∙ getD-append-add (take a l) (replicate (length l - a) zero) (i - a) zero
@@ -38,13 +38,27 @@ module _ {A : Type 0} (zero : A) (l : List A) (a : ℕ) (h : a ≤ length l) whe
       → set l' i zero ≡ take (i + 1) (cleared zero l a) ++ drop (i + 1) l
   clear-more l' i k m e = ap (set l' i) (sym (cleared-rest i k m)) ∙ copy-more zero (cleared zero l a) l l' i m (omega (arith, cleared-sized)) e
 
-  pub clear-all : (l' : List A) (i : ℕ) → i ≡ length l → l' ≡ take i (cleared zero l a) ++ drop i l → l' ≡ cleared zero l a
-  clear-all l' i e k = k ∙ ap (λ (j : ℕ). take j (cleared zero l a) ++ drop j l) e
-      ∙ ap (λ (x : List A). take (length l) (cleared zero l a) ++ x) (drop-length l)
-      ∙ take-all-append (cleared zero l a) (length l) cleared-sized
+  pub clear-all : (l' : List A) (i : ℕ) → i ≡ length l → l' ≡ take i (cleared zero l a) ++ drop i l → Cleared zero a l l'
+  clear-all l' i e k = record {
+    room = h;
+    is = k ∙ ap (λ (j : ℕ). take j (cleared zero l a) ++ drop j l) e
+        ∙ ap (λ (x : List A). take (length l) (cleared zero l a) ++ x) (drop-length l)
+        ∙ take-all-append (cleared zero l a) (length l) cleared-sized;
+  }
     where
       take-all-append : (x : List A) (n : ℕ) → length x ≡ n → take n x ++ [] ≡ x
       take-all-append x n e = ap (λ (y : List A). y ++ []) (take-all n x (omega arith)) ∙ append-nil x
+
+-- a list cleared from a place on: its front, its rest and its length
+module _ {A : Type 0} {zero : A} {a : ℕ} {l l' : List A} (c : Cleared zero a l l') where
+  pub front-stays : (i : ℕ) → i < a → getD l' i zero ≡ getD l i zero
+  front-stays i h = ap (λ (x : List A). getD x i zero) (c .is) ∙ cleared-front zero l a (c .room) i h
+
+  pub length-stays : length l' ≡ length l
+  length-stays = ap length (c .is) ∙ cleared-sized zero l a (c .room)
+
+  pub zeros-behind : (i : ℕ) → a ≤ i → i < length l' → getD l' i zero ≡ zero
+  zeros-behind i h k = ap (λ (x : List A). getD x i zero) (c .is) ∙ cleared-rest zero l a (c .room) i h (omega (arith, length-stays))
 
 -- everything is cleared
 pub cleared-whole : {A : Type 0} (zero : A) (l : List A) → cleared zero l 0 ≡ replicate (length l) zero

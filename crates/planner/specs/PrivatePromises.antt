@@ -9,10 +9,10 @@ use Rattle.sheet.specs.Decoded.{readOf}
 use Rattle.sheet.specs.declared.Sheet.{Sheet}
 use Rattle.walks.specs.Walk.{at}
 use Rattle.walks.specs.Form.{Graph}
-use Rattle.walks.specs.Cycles.{SimpleCycle}
+use Rattle.walks.specs.Cycles.{SimpleCycle, EachEarns}
 use Rattle.lasso.specs.Answer as Lasso
 use Rattle.ratio.specs.Answer.{RatioFound}
-use Rattle.contract.specs.Plan.{Answer, refusedPlan, Buffers, zeros, LongEnough, SameLengths, Planned, stepOn, startOf}
+use Rattle.contract.specs.Plan.{Answer, refusedPlan, Buffers, LongEnough, SameLengths, Judged, Planned, stepOn, startOf}
 use Rattle.contract.specs.Explored.{Found, Explored, Sorted}
 
 -- ---- lists that are written
@@ -20,6 +20,10 @@ use Rattle.contract.specs.Explored.{Found, Explored, Sorted}
 -- zeros from the place a on
 abbrev pub cleared : {A : Type 0} → A → List A → ℕ → List A
 cleared zero l a = take a l ++ replicate (length l - a) zero
+
+pub record Cleared {A : Type 0} (zero : A) (a : ℕ) (l l' : List A) : Type 0 where
+  pub room : a ≤ length l
+  pub is : l' ≡ cleared zero l a
 
 -- the first n entries of l' are those of s at the places that I names
 pub record Picked {A : Type 0} (zero : A) (s : List A) (I : List ℕ) (n : ℕ) (l l' : List A) : Type 0 where
@@ -73,18 +77,21 @@ pub record Cyclic (F T C order tree cycle : List ℕ) (n k : ℕ) : Type 0 where
   pub ordered : n ≤ length order
   pub order-below : (i : ℕ) → i < n → at order i < n
 
--- the graph is that of a sheet, and p/q its least ratio, with the potentials and the cycle that were found with it
+-- the graph is that of a sheet, each cycle earns, and p/q is the least ratio, with the potentials and the cycle that were found with it
 pub record Solved (F T C order : List ℕ) (D : List ℤ) (cycle : List ℕ) (n k : ℕ) (p : ℤ) (q : ℕ) (lent : Buffers) : Type 0 where
   pub cost : List ℤ
   pub reward : List ℕ
   pub of-sheet : OfSheet F T C cost reward order n lent
+  pub earns : EachEarns F T (length F) reward
   pub potential : List ℤ
   pub arcs : List ℕ
   pub least : RatioFound F T cost reward n p q k potential D arcs cycle
 
 -- ---- what the plan comes to
 
--- an accepted plan stands in the buffers; for a refusal they are still to be cleared
+-- the contract of a plan, but that on 12 to 14 the buffers are still to be cleared
 pub record PlannedButForClearing (bytes : List ℕ) (before after : Buffers) (a : Answer) : Type 0 where
-  pub planned : a .refusal ≡ 0 → Planned bytes before after a
-  pub cleared : (a .refusal ≡ 0 → ⊥) → Planned bytes before (zeros before) (refusedPlan (a .refusal))
+  pub judged : Judged bytes before (a .refusal)
+  pub numbers : 0 < a .refusal → a ≡ refusedPlan (a .refusal)
+  pub kept : 0 < a .refusal → a .refusal ≤ 11 → after ≡ before
+  pub accepted : a .refusal ≡ 0 → Planned bytes before after a

@@ -1,6 +1,7 @@
 // The plan of a sheet: the least ratio of cost over reward, the reachable nodes with their potentials, and a lasso whose cycle has that ratio.
 ghost use Rattle.contract.specs.Plan.{Planned};
 ghost use Rattle.planner.specs.ContractTerms.{lentBuffers, answerOf};
+ghost use Rattle.planner.specs.PrivatePromises.{PlannedButForClearing};
 
 mod graphs;
 mod output;
@@ -16,9 +17,9 @@ pub struct Answer {
     pub m: u16,
 }
 
-// Questions 1 to 14. The nodes' numbers are written to nodes, rising, their potentials to potentials, and the codes of stem and cycle to steps.
-pub fn plan(sheet: &[u8], nodes: &mut [u32], potentials: &mut [i64], steps: &mut [u16]) -> Answer
-    ensures { λ r. ⌜ Planned (now (sheet .entry)) (lentBuffers (now (nodes .entry)) (now (potentials .entry)) (now (steps .entry)))
+// Questions 1 to 14. Where one of 12 to 14 is answered no, the buffers are still to be cleared.
+fn ask(sheet: &[u8], nodes: &mut [u32], potentials: &mut [i64], steps: &mut [u16]) -> Answer
+    ensures { λ r. ⌜ PlannedButForClearing (now (sheet .entry)) (lentBuffers (now (nodes .entry)) (now (potentials .entry)) (now (steps .entry)))
         (lentBuffers (now (nodes .exit)) (now (potentials .exit)) (now (steps .exit))) (answerOf r) ⌝ }
 {
     if nodes.len() < 2048 {
@@ -35,8 +36,16 @@ pub fn plan(sheet: &[u8], nodes: &mut [u32], potentials: &mut [i64], steps: &mut
     if refusal != 0 {
         return output::refused(refusal);
     }
-    let answer = sheets::plan_read(read, nodes, potentials, steps);
-    if answer.refusal != 0 {
+    sheets::plan_read(read, nodes, potentials, steps)
+}
+
+// The nodes' numbers are written to nodes, rising, their potentials to potentials, and the codes of stem and cycle to steps.
+pub fn plan(sheet: &[u8], nodes: &mut [u32], potentials: &mut [i64], steps: &mut [u16]) -> Answer
+    ensures { λ r. ⌜ Planned (now (sheet .entry)) (lentBuffers (now (nodes .entry)) (now (potentials .entry)) (now (steps .entry)))
+        (lentBuffers (now (nodes .exit)) (now (potentials .exit)) (now (steps .exit))) (answerOf r) ⌝ }
+{
+    let answer = ask(sheet, nodes, potentials, steps);
+    if 12 <= answer.refusal {
         return output::refuse(answer.refusal, nodes, potentials, steps);
     }
     answer

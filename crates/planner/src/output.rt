@@ -5,7 +5,7 @@ ghost use lib.IntN.{pos};
 ghost use lib.ListN.{length, replicate};
 ghost use Rattle.contract.specs.Plan as Contract;
 ghost use Rattle.planner.specs.ContractTerms.{answerOf, accepted};
-ghost use Rattle.planner.specs.PrivatePromises.{cleared, Picked, Pickable};
+ghost use Rattle.planner.specs.PrivatePromises.{Cleared, Picked, Pickable};
 use crate::Answer;
 
 // All numbers besides the refusal are 0.
@@ -40,7 +40,7 @@ pub(crate) fn accepted(p: i64, q: u64, n: usize, s: usize, m: usize) -> Answer
 // Zeros from a place on.
 pub(crate) fn clear_nodes(list: &mut [u32], from: usize)
     requires { ⌜ from ≤ length (now list) ⌝ }
-    ensures { λ _. ⌜ now (list .exit) ≡ cleared 0 (now (list .entry)) from ⌝ }
+    ensures { λ _. ⌜ Cleared 0 from (now (list .entry)) (now (list .exit)) ⌝ }
 {
     let mut i = from;
     while i < list.len() {
@@ -51,7 +51,7 @@ pub(crate) fn clear_nodes(list: &mut [u32], from: usize)
 
 pub(crate) fn clear_potentials(list: &mut [i64], from: usize)
     requires { ⌜ from ≤ length (now list) ⌝ }
-    ensures { λ _. ⌜ now (list .exit) ≡ cleared (pos 0) (now (list .entry)) from ⌝ }
+    ensures { λ _. ⌜ Cleared (pos 0) from (now (list .entry)) (now (list .exit)) ⌝ }
 {
     let mut i = from;
     while i < list.len() {
@@ -62,7 +62,7 @@ pub(crate) fn clear_potentials(list: &mut [i64], from: usize)
 
 pub(crate) fn clear_steps(list: &mut [u16], from: usize)
     requires { ⌜ from ≤ length (now list) ⌝ }
-    ensures { λ _. ⌜ now (list .exit) ≡ cleared 0 (now (list .entry)) from ⌝ }
+    ensures { λ _. ⌜ Cleared 0 from (now (list .entry)) (now (list .exit)) ⌝ }
 {
     let mut i = from;
     while i < list.len() {

@@ -1,5 +1,5 @@
--- The searches for questions 13 and 14 by their answers, and the answer that holds the least ratio.
-use mathlib.Core.Path.{_≡_, sym, ap, subst, _∙_}
+-- The searches for questions 13 and 14 by their answers, the copy of the cycle, and what the verdict's number says.
+use mathlib.Core.Path.{_≡_, ap, subst, _∙_}
 use mathlib.Core.List.{List, _++_}
 use Prim.Native.Nat.{ℕ, _≤_}
 use native.Mathlib.Omega.{arith}
@@ -10,9 +10,9 @@ use Rattle.walks.specs.Form.{Graph}
 use Rattle.graph.specs.Answer as Search
 use Rattle.graph.specs.declared.Answer.{Answer}
 use Rattle.graph.specs.declared.Answer.the-variants.{Malformed, Cycle, Potentials}
-use Rattle.walks.specs.Cycles.{SimpleCycle, EachEarns, Idle}
-use Rattle.ratio.specs.Answer.{RatioOf, RatioFound}
-use Rattle.ratio.specs.Turns.{InHand, LeastInHand}
+use Rattle.walks.specs.Cycles.{Acyclic, EachEarns, Idle}
+use Rattle.ratio.specs.Answer.{RatioQuestions, no-to-13, no-to-14, yes-to-both}
+use Rattle.ratio.specs.Turns.{InHand}
 use Rattle.ratio.proofs.Searches.{simple-of, idle}
 use Rattle.walks.specs.Weight.{weightOf}
 
@@ -52,25 +52,30 @@ pub idle-found : {F T : List ℕ} {cost : List ℤ} {reward : List ℕ} {n : ℕ
 idle-found {F} {T} {cost} {reward} {arcs' = arcs'} {k = k} g c =
     idle F T (length F) cost reward (take k arcs') (omega (arith, length-take k arcs', c .short, g .nodes)) (c .negative)
 
--- the least ratio, with the cycle copied to the front of the lent buffer
-pub ratio-found : {F T : List ℕ} {cost : List ℤ} {reward : List ℕ} {n : ℕ} {potential potential' : List ℤ} {hand cycle cycle' : List ℕ} {p : ℤ} {q k : ℕ}
-    → EachEarns F T (length F) reward → LeastInHand F T cost reward n potential potential' hand p q k → cycle' ≡ take k hand ++ drop k cycle
-    → RatioFound F T cost reward n p q k potential potential' cycle cycle'
-ratio-found {F} {T} {cost} {reward} {hand = hand} {cycle = cycle} {cycle' = cycle'} {p = p} {q = q} {k = k} earns s e = record {
-  short = s .in-hand .short;
-  attained = subst (SimpleCycle F T (length F)) (sym front) (s .in-hand .cycle);
-  ratio = subst (λ (c : List ℕ). RatioOf cost reward c p q) (sym front) (s .ratio);
-  p-small = s .p-small;
-  q-small = s .q-small;
-  earns = earns;
-  none-below = s .none-below;
-  potentials = s .potentials;
-  rest-potential = s .rest;
-  rest-cycle = ap (drop k) e ∙ drop-at (take k hand) (drop k cycle) k sized;
-}
-  where
-    sized : length (take k hand) ≡ k
-    sized = length-take-le k hand (omega (arith, s .in-hand .short, s .in-hand .room))
+-- the cycle copied to the front of the lent buffer
+module _ (hand cycle cycle' : List ℕ) (k : ℕ) (fits : k ≤ length hand) (e : cycle' ≡ take k hand ++ drop k cycle) where
+  sized : length (take k hand) ≡ k
+  sized = length-take-le k hand fits
 
-    front : take k cycle' ≡ take k hand
-    front = ap (take k) e ∙ take-at (take k hand) (drop k cycle) k sized
+  pub copied-front : take k cycle' ≡ take k hand
+  copied-front = ap (take k) e ∙ take-at (take k hand) (drop k cycle) k sized
+
+  pub copied-rest : drop k cycle' ≡ drop k cycle
+  copied-rest = ap (drop k) e ∙ drop-at (take k hand) (drop k cycle) k sized
+
+-- what each number says of the graph
+module _ {F T reward : List ℕ} where
+  pub numbered-13 : RatioQuestions F T reward 13 → Acyclic F T (length F)
+  numbered-13 (no-to-13 e a) = a
+  numbered-13 (no-to-14 e i) = absurd (omega arith)
+  numbered-13 (yes-to-both e c s a) = absurd (omega arith)
+
+  pub numbered-14 : RatioQuestions F T reward 14 → Idle F T (length F) reward
+  numbered-14 (no-to-13 e a) = absurd (omega arith)
+  numbered-14 (no-to-14 e i) = i
+  numbered-14 (yes-to-both e c s a) = absurd (omega arith)
+
+  pub numbered-0 : RatioQuestions F T reward 0 → EachEarns F T (length F) reward
+  numbered-0 (no-to-13 e a) = absurd (omega arith)
+  numbered-0 (no-to-14 e i) = absurd (omega arith)
+  numbered-0 (yes-to-both e c s a) = a

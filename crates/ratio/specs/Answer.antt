@@ -1,6 +1,7 @@
 -- What `least_ratio` answers. The buffers as the call finds them are `potential` and `cycle`, and as it leaves them `potential'` and `cycle'`.
 use mathlib.Core.Path.{_≡_}
 use mathlib.Core.List.{List}
+use mathlib.Core.Option.{Option, none, some}
 use Prim.Native.Nat.{ℕ, _≤_, _<_}
 use lib.ListN.{length, take, drop}
 use lib.IntN.{ℤ, pos, negℤ, natAbs, _*ℤ_}
@@ -20,8 +21,8 @@ pub record RatioArguments (F T : List ℕ) (cost : List ℤ) (reward : List ℕ)
 
 -- p / q is the ratio of the cycle c, in lowest terms
 pub record RatioOf (cost : List ℤ) (reward c : List ℕ) (p : ℤ) (q : ℕ) : Type 0 where
-  pub lowest : Lowest p q
   pub exact : pos q *ℤ sum (atℤ cost) c ≡ p *ℤ pos (total (at reward) c)
+  pub lowest : Lowest p q
 
 -- the first k entries of cycle are the arcs of a simple cycle with the ratio p / q, in order, and no cycle is below it; the first n of potential
 -- are the nodes' potentials at that ratio; nothing else is written
@@ -31,7 +32,6 @@ pub record RatioFound (F T : List ℕ) (cost : List ℤ) (reward : List ℕ) (n 
   pub ratio : RatioOf cost reward (take k cycle') p q
   pub p-small : natAbs p ≤ 20480000
   pub q-small : q ≤ 20480000
-  pub earns : EachEarns F T (length F) reward
   pub none-below : NoneNegative F T (length F) (weightOf (pos q) (negℤ p) (pos 0) cost reward)
   pub potentials : (v : ℕ) → v < n → PotentialOrMark F T (length F) (weightOf (pos q) (negℤ p) (pos 0) cost reward) v (atℤ potential' v)
   pub rest-potential : drop n potential' ≡ drop n potential
@@ -42,12 +42,31 @@ pub record Kept (potential potential' : List ℤ) (cycle cycle' : List ℕ) : Ty
   pub potentials : potential' ≡ potential
   pub cycles : cycle' ≡ cycle
 
+-- 01's number of each answer; malformed arguments have no number of 01's, and no plan gets that answer
+abbrev pub verdictNumber : Verdict → Option ℕ
+verdictNumber Malformed = none
+verdictNumber NoCycle = some 13
+verdictNumber NoReward = some 14
+verdictNumber (Ratio p q k) = some 0
+
+-- questions 13 and 14 put to the graph, with the number of the first answered no, and 0 where both are answered yes. No two cases hold together.
+pub data RatioQuestions (F T reward : List ℕ) (number : ℕ) : Type 0 where
+  no-to-13 : number ≡ 13 → Acyclic F T (length F) → RatioQuestions F T reward number
+  no-to-14 : number ≡ 14 → Idle F T (length F) reward → RatioQuestions F T reward number
+  yes-to-both : number ≡ 0 → (c : List ℕ) → SimpleCycle F T (length F) c → EachEarns F T (length F) reward → RatioQuestions F T reward number
+
+-- what the number of an answer says of the arguments
+abbrev pub RatioNumbered : List ℕ → List ℕ → List ℤ → List ℕ → ℕ → ℕ → ℕ → Option ℕ → Type 0
+RatioNumbered F T cost reward n potentials arcs none = ¬ RatioArguments F T cost reward n potentials arcs
+RatioNumbered F T cost reward n potentials arcs (some number) = RatioArguments F T cost reward n potentials arcs × RatioQuestions F T reward number
+
+-- what an answer leaves in the buffers
+abbrev pub RatioLeft : List ℕ → List ℕ → List ℤ → List ℕ → ℕ → List ℤ → List ℤ → List ℕ → List ℕ → Verdict → Type 0
+RatioLeft F T cost reward n potential potential' cycle cycle' Malformed = Kept potential potential' cycle cycle'
+RatioLeft F T cost reward n potential potential' cycle cycle' NoCycle = Kept potential potential' cycle cycle'
+RatioLeft F T cost reward n potential potential' cycle cycle' NoReward = Kept potential potential' cycle cycle'
+RatioLeft F T cost reward n potential potential' cycle cycle' (Ratio p q k) = RatioFound F T cost reward n p q k potential potential' cycle cycle'
+
 abbrev pub RatioAnswered : List ℕ → List ℕ → List ℤ → List ℕ → ℕ → List ℤ → List ℤ → List ℕ → List ℕ → Verdict → Type 0
-RatioAnswered F T cost reward n potential potential' cycle cycle' Malformed =
-    (RatioArguments F T cost reward n (length potential) (length cycle) → ⊥) × Kept potential potential' cycle cycle'
-RatioAnswered F T cost reward n potential potential' cycle cycle' NoCycle =
-    RatioArguments F T cost reward n (length potential) (length cycle) × Acyclic F T (length F) × Kept potential potential' cycle cycle'
-RatioAnswered F T cost reward n potential potential' cycle cycle' NoReward =
-    RatioArguments F T cost reward n (length potential) (length cycle) × Idle F T (length F) reward × Kept potential potential' cycle cycle'
-RatioAnswered F T cost reward n potential potential' cycle cycle' (Ratio p q k) =
-    RatioArguments F T cost reward n (length potential) (length cycle) × RatioFound F T cost reward n p q k potential potential' cycle cycle'
+RatioAnswered F T cost reward n potential potential' cycle cycle' v =
+    RatioNumbered F T cost reward n (length potential) (length cycle) (verdictNumber v) × RatioLeft F T cost reward n potential potential' cycle cycle' v

@@ -1,4 +1,4 @@
--- What the private functions promise each other: the ratio of the cycle in hand, and a turn of the loop.
+-- What the private functions promise each other: the ratio of the cycle in hand, and a turn of the loop. Only private functions go by this file.
 use mathlib.Core.Path.{_≡_}
 use mathlib.Core.List.{List}
 use Prim.Native.Nat.{ℕ, _≤_, _<_}

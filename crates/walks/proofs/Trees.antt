@@ -11,26 +11,30 @@ pub use Rattle.walks.specs.Lasso.{Tree, Stem}
 pub stem-none : (F T : List ℕ) (m h : ℕ) (l : List ℕ) → Stem F T m h (slice (length l) (length l) l) h
 stem-none F T m h l = rw (slice-empty (length l) l) record { walk = refl; rising = tt }
 
+-- an entry stored just before a part that goes to the end
+pub stored-before : (l : List ℕ) (a e : ℕ) → a < length l → slice a (length (set l a e)) (set l a e) ≡ e ∷ slice (suc a) (length l) l
+stored-before l a e h =
+    let z : length (set l a e) ≡ length l = length-set l a e in
+    rw (
+      z,
+      slice-cons a (length l) (set l a e) 0 h (omega arith),
+      getD-set-same l a e 0 h,
+      take-set-lt (length l) l a e h,
+      drop-set-lt (suc a) (take (length l) l) a e (omega arith),
+    ) refl
+
 -- one arc more, in front
 pub stem-more : (F tree : List ℕ) (n x a h : ℕ) (l : List ℕ) (g : Tree F tree n) → x < n → 0 < x → a < length l
     → Stem F (g .T) (g .m) x (slice (suc a) (length l) l) h
     → Stem F (g .T) (g .m) (at F (at tree x)) (slice a (length (set l a (at tree x))) (set l a (at tree x))) h
-stem-more F tree n x a h l g hn hx ha s =
-    let z : length (set l a (at tree x)) ≡ length l = length-set l a (at tree x) in
-    rw (
-      z,
-      slice-cons a (length l) (set l a (at tree x)) 0 ha (omega arith),
-      getD-set-same l a (at tree x) 0 ha,
-      take-set-lt (length l) l a (at tree x) ha,
-      drop-set-lt (suc a) (take (length l) l) a (at tree x) (omega arith),
-    ) record {
-      walk = (
-        g .arc x hn hx,
-        refl,
-        subst (λ (k : ℕ). ArcWalk F (g .T) (g .m) k (slice (suc a) (length l) l) h) (sym (g .ends x hn hx)) (s .walk),
-      );
-      rising = (omega (arith, g .ends x hn hx, g .earlier x hn hx), s .rising);
-    }
+stem-more F tree n x a h l g hn hx ha s = rw (stored-before l a (at tree x) ha) record {
+  walk = (
+    g .arc x hn hx,
+    refl,
+    subst (λ (k : ℕ). ArcWalk F (g .T) (g .m) k (slice (suc a) (length l) l) h) (sym (g .ends x hn hx)) (s .walk),
+  );
+  rising = (omega (arith, g .ends x hn hx, g .earlier x hn hx), s .rising);
+}
 
 -- ---- parts of lists
 add′ : (a n : ℕ) → suc a + n ≡ suc (a + n)

@@ -1,84 +1,35 @@
--- Question 1, the check, and then what follows.
-use mathlib.Core.Path.{_≡_, ap, _∙_}
+-- The questions, and the clearing on 12 to 14.
+use mathlib.Core.Path.{_≡_, _∙_}
+use Prim.Native.Nat.{_≤_, _<_}
 use native.Mathlib.Omega.{arith}
 use denote.Ref.{now}
-use Rattle.sheet.specs.declared.Sheet.{Sheet}
-use Rattle.sheet.specs.Questions.{checkOf}
-use Rattle.nodes.proofs.DecodedLaws.{read-refusal}
 use Rattle.contract.specs.Plan.{Buffers, SameLengths}
-use Rattle.contract.proofs.Exits.{short-buffer, faulty-sheet}
 use Rattle.planner.specs.ContractTerms.{lentBuffers, answerOf}
 use Rattle.planner.specs.PrivatePromises.{PlannedButForClearing}
-use Rattle.planner.proofs.GraphLaws.{refused-planned}
+use Rattle.planner.proofs.GraphLaws.{all-zero, refused-planned}
 use borrow.Author.Needs.{needs}
 use Rattle.planner.proofs.plan.Statement.{statement}
 use Rattle.planner.proofs.plan.Tie as tie
 
 -- the start
-abbrev S : tie.After-read → tie.Start
+abbrev S : tie.After-ask → tie.Start
 S c = c .before .before .before .before .before .before .before
 
--- the buffers lent to this function
-abbrev before : tie.Start → Buffers
-before s = lentBuffers (now (s .args .nodes)) (now (s .args .potentials)) (now (s .args .steps))
+-- the buffers lent to this function, and as the questions leave them
+abbrev before : tie.After-ask → Buffers
+before c = lentBuffers (now (S c .args .nodes)) (now (S c .args .potentials)) (now (S c .args .steps))
 
-refusal : (c : tie.After-read) → c .read .result .refusal ≡ checkOf (now (S c .args .sheet))
-refusal c = ap (λ (x : Sheet). x .refusal) (c .read .ensures) ∙ read-refusal (now (S c .args .sheet))
+abbrev after : tie.After-ask → Buffers
+after c = let l = c .ask .last .1 in lentBuffers (l .0) (l .1 .0) (l .1 .1 .0)
 
--- the same after the plan of the sheet that was read, and what is settled then
-abbrev R : tie.After-plan-read → tie.After-read
-R c = c .before .before .before .before .before
+same : (c : tie.After-ask) → SameLengths (after c) (before c)
+same c = let k = c .ask .kept .1 in record { nodes = k .0; potentials = k .1 .0; steps = k .1 .1 .0 }
 
-abbrev after : tie.After-plan-read → Buffers
-after c = let l = c .plan-read .last .1 in lentBuffers (l .0) (l .1 .0) (l .1 .1 .0)
+settled : (c : tie.After-ask) → PlannedButForClearing (now (S c .args .sheet)) (before c) (after c) (answerOf (c .ask .result))
+settled c = c .ask .ensures
 
-same : (c : tie.After-plan-read) → SameLengths (after c) (before (S (R c)))
-same c = let k = c .plan-read .kept .1 in record { nodes = k .0; potentials = k .1 .0; steps = k .1 .1 .0 }
-
-settled : (c : tie.After-plan-read) → PlannedButForClearing (now (S (R c) .args .sheet)) (before (S (R c))) (after c) (answerOf (c .plan-read .result))
-settled c = c .plan-read .ensures (record { bytes = now (S (R c) .args .sheet); checked = omega (arith, refusal (R c)); is = R c .read .ensures })
-
-refused-requires : tie.Need-refused-requires
-refused-requires c κs = search needs
-
-returns : tie.Need-returns
-returns c =
-    let s = c .before .before .before .before .before in
-    rw (c .refused .ensures) (short-buffer (now (s .args .sheet)) (before s) (λ l. omega (arith, l .nodes)))
-
-refused-requires-2 : tie.Need-refused-requires-2
-refused-requires-2 c κs = search needs
-
-returns-2 : tie.Need-returns-2
-returns-2 c =
-    let s = c .before .before .before .before .before .before in
-    rw (c .refused2 .ensures) (short-buffer (now (s .args .sheet)) (before s) (λ l. omega (arith, l .potentials)))
-
-refused-requires-3 : tie.Need-refused-requires-3
-refused-requires-3 c κs = search needs
-
-returns-3 : tie.Need-returns-3
-returns-3 c =
-    let s = c .before .before .before .before .before .before .before in
-    rw (c .refused3 .ensures) (short-buffer (now (s .args .sheet)) (before s) (λ l. omega (arith, l .steps)))
-
-read-requires : tie.Need-read-requires
-read-requires c κs = search needs
-
-refused-requires-4 : tie.Need-refused-requires-4
-refused-requires-4 c κs = search needs
-
-returns-4 : tie.Need-returns-4
-returns-4 c =
-    let r = c .before .before in
-    let s = S r in
-    rw (c .refused4 .ensures, refusal r)
-    (faulty-sheet (now (s .args .sheet)) (before s) (record { nodes = omega arith; potentials = omega arith; steps = omega arith }) (λ z. omega (arith, refusal r)))
-
-plan-read-requires : tie.Need-plan-read-requires
-plan-read-requires c κs =
-    let r = c .before .before .before .before in
-    (record { bytes = now (S r .args .sheet); checked = omega (arith, refusal r); is = r .read .ensures }, record { nodes = omega arith; potentials = omega arith; steps = omega arith })
+ask-requires : tie.Need-ask-requires
+ask-requires c κs = search needs
 
 refuse-requires : tie.Need-refuse-requires
 refuse-requires c κs = search needs
@@ -92,13 +43,19 @@ same-length-2 c = search needs
 same-length-3 : tie.Need-same-length-3
 same-length-3 c = search needs
 
-returns-5 : tie.Need-returns-5
-returns-5 c =
+returns : tie.Need-returns
+returns c =
     let f = c .before .before .before .before .before in
     let w = f .refuse .ensures in
     let p = f .before .before .before .before .before .before .before .before .before .before .before in
-    refused-planned (same p) (w .1 .0) (w .1 .1 .0) (w .1 .1 .1) (w .0)
-    (settled p .cleared (f .before .before .before .before .if5 .taken))
+    let high = f .before .before .before .before .if1 .taken in
+    let k = f .refuse .kept .1 in
+    let r = p .ask .result .refusal in
+    let l = f .refuse .last .1 in
+    let left = lentBuffers (l .0) (l .1 .0) (l .1 .1 .0) in
+    let kept : 0 < r → r ≤ 11 → left ≡ before p = λ _ low. absurd (omega (arith, high)) in
+    refused-planned (w .0) (settled p .judged) kept (all-zero (same p) (w .1 .0) (w .1 .1 .0) (w .1 .1 .1))
+    (record { nodes = k .0 ∙ same p .nodes; potentials = k .1 .0 ∙ same p .potentials; steps = k .1 .1 .0 ∙ same p .steps }) (omega (arith, high))
 
 same-length-4 : tie.Need-same-length-4
 same-length-4 c = search needs
@@ -109,29 +66,31 @@ same-length-5 c = search needs
 same-length-6 : tie.Need-same-length-6
 same-length-6 c = search needs
 
-returns-6 : tie.Need-returns-6
-returns-6 c = settled (c .before .before .before .before .before .before .before) .planned (c .if5 .left)
+returns-2 : tie.Need-returns-2
+returns-2 c =
+    let p = c .before .before .before .before .before .before .before in
+    let s = settled p in
+    record {
+      judged = s .judged;
+      numbers = s .numbers;
+      kept = s .kept;
+      cleared = λ high. absurd (omega (arith, c .if1 .left));
+      lengths = same p;
+      accepted = λ z. s .accepted z .accepted z;
+      no-loop-below = λ z. s .accepted z .no-loop-below z;
+    }
 
 pub plan-spec : {M : Type 1} → statement M
 plan-spec =
     tie.close
     (tie.spec
-    refused-requires
-    returns
-    refused-requires-2
-    returns-2
-    refused-requires-3
-    returns-3
-    read-requires
-    refused-requires-4
-    returns-4
-    plan-read-requires
+    ask-requires
     refuse-requires
     same-length
     same-length-2
     same-length-3
-    returns-5
+    returns
     same-length-4
     same-length-5
     same-length-6
-    returns-6)
+    returns-2)

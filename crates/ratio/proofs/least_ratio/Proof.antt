@@ -7,6 +7,7 @@ use native.Mathlib.Omega.{arith}
 use denote.Ref.{now}
 use lib.IntN.{ℤ, pos}
 use lib.ListN.{replicate}
+use Rattle.ratio.specs.Answer.{no-to-13}
 use Rattle.ratio.proofs.Searches.{acyclic}
 use Rattle.ratio.proofs.VerdictLaws.{room, no-graph, found, none, first-hand}
 use Rattle.ratio.proofs.least_ratio.Statement.{statement}
@@ -76,8 +77,10 @@ returns-4 c =
     let s = S r in
     let g = none (now (s .args .from)) (now (s .args .to)) (now (s .args .cost)) (now (s .args .reward)) (s .args .nodes) 0 (omega arith)
     (replicate 2048 (pos 0)) (D r) (replicate 2048 0) (arcs r) (r .negative-cycle .result) (r .negative-cycle .ensures) (c .enum-told2 .given .1) in (
-      record { graph = g .0; potential-room = omega arith; cycle-room = omega arith },
-      acyclic (now (s .args .from)) (now (s .args .to)) _ (now (s .args .cost)) (now (s .args .reward)) (g .1 .none),
+      (
+        record { graph = g .0; potential-room = omega arith; cycle-room = omega arith },
+        no-to-13 refl (acyclic (now (s .args .from)) (now (s .args .to)) _ (now (s .args .cost)) (now (s .args .reward)) (g .1 .none)),
+      ),
       record { potentials = refl; cycles = refl },
     )
 

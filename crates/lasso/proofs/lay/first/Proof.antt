@@ -10,7 +10,7 @@ use Rattle.lasso.proofs.lay.first.Statement.{statement}
 use Rattle.lasso.proofs.lay.first.Tie as tie
 
 abbrev Inv-loop : tie.InvT-loop
-Inv-loop from cycle k t₀ best₀ i₀ t best i = (t < i) × ((i ≤ k) × ((best ≡ at from (at cycle t)) × ((j : ℕ) → j < i → best ≤ at from (at cycle j))))
+Inv-loop from cycle k t₀ best₀ i₀ t best i = (t < i) × ((i ≤ k) × ((best ≡ at from (at cycle t)) × (((j : ℕ) → j < i → best ≤ at from (at cycle j)) × ((j : ℕ) → j < t → best < at from (at cycle j)))))
 
 abbrev μ-loop : tie.MeasureT-loop
 μ-loop from cycle k t₀ best₀ i₀ t best i = k - i
@@ -29,8 +29,11 @@ loop-holds c =
         omega (arith, s .pre .0),
         (
           c .node .ensures,
-          λ j h. let e : j ≡ 0 = omega arith in
-              omega (arith, c .node .ensures, ap (λ (i : ℕ). at (now (s .args .from)) (at (now (s .args .cycle)) i)) e),
+          (
+            λ j h. let e : j ≡ 0 = omega arith in
+                omega (arith, c .node .ensures, ap (λ (i : ℕ). at (now (s .args .from)) (at (now (s .args .cycle)) i)) e),
+            λ j h. absurd (omega arith),
+          ),
         ),
       ),
     )
@@ -63,7 +66,10 @@ loop-again c =
         omega arith,
         (
           w .2 ∙ n .ensures ∙ sym (ap (λ (j : ℕ). at (now (s .args .from)) (at (now (s .args .cycle)) j)) (w .1)),
-          least-more (now (s .args .from)) (now (s .args .cycle)) (l .i) (l .best) (n .result) (c .if1 .best) (v .1 .1 .1) (n .ensures) (omega (arith, w .0, w .2)) (omega (arith, w .2)),
+          (
+            least-more (now (s .args .from)) (now (s .args .cycle)) (l .i) (l .best) (n .result) (c .if1 .best) (v .1 .1 .1 .0) (n .ensures) (omega (arith, w .0, w .2)) (omega (arith, w .2)),
+            λ j h. omega (arith, w .0, w .2, v .1 .1 .1 .0 j (omega (arith, w .1))),
+          ),
         ),
       ),
     ))
@@ -73,7 +79,10 @@ loop-again c =
         omega arith,
         (
           w .2 ∙ v .1 .1 .0 ∙ sym (ap (λ (j : ℕ). at (now (s .args .from)) (at (now (s .args .cycle)) j)) (w .1)),
-          least-more (now (s .args .from)) (now (s .args .cycle)) (l .i) (l .best) (n .result) (c .if1 .best) (v .1 .1 .1) (n .ensures) (omega (arith, w .2)) (omega (arith, w .0, w .2)),
+          (
+            least-more (now (s .args .from)) (now (s .args .cycle)) (l .i) (l .best) (n .result) (c .if1 .best) (v .1 .1 .1 .0) (n .ensures) (omega (arith, w .2)) (omega (arith, w .0, w .2)),
+            λ j h. omega (arith, w .2, v .1 .1 .1 .1 j (omega (arith, w .1))),
+          ),
         ),
       ),
     ))
@@ -82,7 +91,10 @@ loop-again c =
 returns : tie.Need-returns Inv-loop μ-loop
 returns c =
     let v = c .before .loop .inv in
-    (omega (arith, v .0, v .1 .0), λ i h. omega (arith, v .1 .1 .0, v .1 .1 .1 i (omega (arith, c .loop-test .left))))
+    let least = v .1 .1 .1 in (
+      omega (arith, v .0, v .1 .0),
+      (λ i h. omega (arith, v .1 .1 .0, least .0 i (omega (arith, c .loop-test .left))), λ i h. omega (arith, v .1 .1 .0, least .1 i h)),
+    )
 
 pub first-spec : {M : Type 1} → statement M
 first-spec =

@@ -95,7 +95,9 @@ sub-copy-4 : tie.Need-sub-copy-4
 sub-copy-4 c = search needs
 
 add-copy : tie.Need-add-copy
-add-copy c = search needs
+add-copy c =
+    let s = S (E (H (C1 (c .before .before .before)) .before)) in
+    omega (arith, s .pre .cycle-room)
 
 copy-requires-3 : tie.Need-copy-requires-3
 copy-requires-3 c κs = search needs
@@ -113,10 +115,11 @@ returns c =
     let f = E (h .before) in
     let s = S f in
     let order = t .last .1 .1 .1 .0 in
-    let x = subst (λ (y : ℕ). Stem (now (s .args .from)) (now (s .args .to)) (length (now (s .args .from))) 0 (slice (t .result) (length order) order) y) (h .before .node .ensures) (t .ensures .1 .1 (tree f)) in
-    laid-out (now (s .args .from)) (now (s .args .to)) (now (s .args .cycle)) order (now (s .args .arcs)) (copy1 .last .1 .1 .0) (copy2 .last .1 .1 .0) (copy3 .last .1 .1 .0)
+    let w = t .ensures .1 .1 (tree f) in
+    let x = subst (λ (y : ℕ). Stem (now (s .args .from)) (now (s .args .to)) (length (now (s .args .from))) 0 (slice (t .result) (length order) order) y) (h .before .node .ensures) (w .0) in
+    laid-out (now (s .args .from)) (now (s .args .to)) (now (s .args .tree)) (now (s .args .cycle)) order (now (s .args .arcs)) (copy1 .last .1 .1 .0) (copy2 .last .1 .1 .0) (copy3 .last .1 .1 .0)
     (s .args .nodes) (s .args .k) (t .result) (f .first .result) (2048 - t .result) (t .kept .1 .1 .1 .0) (t .ensures .0) (omega (arith, t .ensures .1 .0)) refl
-    (f .first .ensures .0) (s .pre .cycle-room) (s .pre .arcs-room) (f .first .ensures .1) x (copy1 .ensures) (copy2 .ensures) (copy3 .ensures)
+    (f .first .ensures .0) (s .pre .cycle-room) (s .pre .arcs-room) (f .first .ensures .1 .0) (f .first .ensures .1 .1) x (w .1) (copy1 .ensures) (copy2 .ensures) (copy3 .ensures)
 
 pub lay-out-spec : {M : Type 1} → statement M
 lay-out-spec =

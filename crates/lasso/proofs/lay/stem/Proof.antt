@@ -4,9 +4,10 @@ use Prim.Native.Nat.{ℕ, _+_, _≤_, _<_}
 use native.Mathlib.Omega.{arith}
 use denote.Ref.{now}
 use lib.ListN.{length, length-set}
-use lib.Seq.{slice}
+use lib.Seq.{slice, slice-empty}
 use Rattle.walks.specs.Lasso.{Tree, Stem}
 use Rattle.walks.proofs.Trees.{stem-none}
+use Rattle.lasso.specs.Answer.{AlongTree}
 use Rattle.lasso.proofs.Passing.{stem-on}
 use Rattle.lasso.proofs.lay.stem.Statement.{statement}
 use Rattle.lasso.proofs.lay.stem.Tie as tie
@@ -14,7 +15,7 @@ use Rattle.lasso.proofs.lay.stem.Tie as tie
 abbrev Inv-loop : tie.InvT-loop
 Inv-loop from tree nodes order₀ h x₀ top₀ order x top =
     (x < nodes) × ((length order ≡ length order₀) × ((x + length order₀ ≤ top + h) × ((top ≤ length order₀)
-    × ((g : Tree from tree nodes) → Stem from (g .T) (g .m) x (slice top (length order) order) h))))
+    × ((g : Tree from tree nodes) → Stem from (g .T) (g .m) x (slice top (length order) order) h × AlongTree (g .T) tree (slice top (length order) order)))))
 
 abbrev μ-loop : tie.MeasureT-loop
 μ-loop from tree nodes order₀ h x₀ top₀ order x top = x
@@ -36,7 +37,8 @@ ahead l = omega (arith, l .loop .inv .1 .1 .0, S l .pre .1 .0, S l .pre .1 .1 .1
 loop-holds : tie.Need-loop-holds Inv-loop μ-loop
 loop-holds c =
     let s = c .before .before .before in
-    (s .pre .1 .0, (refl, (omega arith, (omega arith, λ g. stem-none (now (s .args .from)) (g .T) (g .m) (s .args .h) (now (s .args .order))))))
+    let l = now (s .args .order) in
+    (s .pre .1 .0, (refl, (omega arith, (omega arith, λ g. (stem-none (now (s .args .from)) (g .T) (g .m) (s .args .h) l, rw (slice-empty (length l) l) tt)))))
 
 mul-e : tie.Need-mul-e Inv-loop μ-loop
 mul-e c = omega (arith, in-tree (c .before))
@@ -95,7 +97,13 @@ returns c =
     let v = l .inv in
     let z : l .x ≡ 0 = omega (arith, c .loop-test .left) in (
       v .1 .1 .1 .0,
-      (omega (arith, v .1 .1 .0, s .pre .1 .0), λ g. subst (λ (x : ℕ). Stem (now (s .args .from)) (g .T) (g .m) x (slice (l .top) (length (l .order)) (l .order)) (s .args .h)) z (v .1 .1 .1 .1 g)),
+      (
+        omega (arith, v .1 .1 .0, s .pre .1 .0),
+        λ g. (
+          subst (λ (x : ℕ). Stem (now (s .args .from)) (g .T) (g .m) x (slice (l .top) (length (l .order)) (l .order)) (s .args .h)) z (v .1 .1 .1 .1 g .0),
+          v .1 .1 .1 .1 g .1,
+        ),
+      ),
     )
 
 pub stem-spec : {M : Type 1} → statement M

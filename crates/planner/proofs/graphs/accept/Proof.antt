@@ -1,18 +1,18 @@
 -- The lasso is laid out, and the three buffers are written.
-use mathlib.Core.Path.{_≡_, ap, _∙_}
+use mathlib.Core.Path.{_≡_, _∙_}
 use mathlib.Core.List.{List}
 use Prim.Native.Nat.{ℕ, _+_, _≤_}
 use native.Mathlib.Omega.{arith}
 use denote.Ref.{now}
-use lib.IntN.{ℤ}
 use lib.ListN.{length, replicate}
 use mir.Syntax.{w64}
 use mir.ValLaws.{toZ-ofZ}
 use Rattle.lasso.specs.Answer.{LaidOut}
-use Rattle.contract.specs.Plan.{Answer}
-use Rattle.planner.specs.ContractTerms.{accepted}
-use Rattle.planner.proofs.AcceptLaws.{accepted-planned}
-use Rattle.planner.proofs.GraphLaws.{settled-accepted}
+use Rattle.contract.specs.Plan.{Buffers}
+use Rattle.planner.specs.ContractTerms.{lentBuffers}
+use Rattle.planner.proofs.ListLaws.{front-stays, zeros-behind, length-stays}
+use Rattle.planner.proofs.AcceptLaws.{Written, accepted-planned}
+use Rattle.planner.proofs.GraphLaws.{settled-planned}
 use Rattle.planner.proofs.LassoLaws.{short, codes-pickable, never, laid-of}
 use borrow.Author.Needs.{needs}
 use Rattle.planner.proofs.graphs.accept.Statement.{statement}
@@ -48,7 +48,7 @@ sized : (c : tie.After-lasso-of) → length (arcs c) ≡ 4096
 sized c = c .lasso-of .kept .1 .1 .1 .1 .1 .1 .0
 
 laid : (v : tie.After-laid)
-    → LaidOut (now (S (L v) .args .from)) (now (S (L v) .args .to)) (now (S (L v) .args .cycle)) (S (L v) .args .n) (S (L v) .args .k) (v .laid .given .0 .0) (replicate 4096 0) (arcs (L v))
+    → LaidOut (now (S (L v) .args .from)) (now (S (L v) .args .to)) (now (S (L v) .args .tree)) (now (S (L v) .args .cycle)) (S (L v) .args .n) (S (L v) .args .k) (v .laid .given .0 .0) (replicate 4096 0) (arcs (L v))
 laid v =
     let s = S (L v) in
     laid-of (now (s .args .from)) (now (s .args .to)) (now (s .args .tree)) (now (s .args .cycle)) (s .args .n) (s .args .k)
@@ -133,16 +133,43 @@ same-length-2 c = search needs
 same-length-3 : tie.Need-same-length-3
 same-length-3 c = search needs
 
-returns-2 : tie.Need-returns-2
-returns-2 c =
+-- ---- what stands in the buffers at the end
+
+-- what each of the functions that write was lent, and left
+abbrev lent-to : tie.Start → Buffers
+lent-to s = lentBuffers (now (s .args .nodes)) (now (s .args .potentials)) (now (s .args .steps))
+
+abbrev left : tie.After-accepted → Buffers
+left c =
+    let e = E (c .before) in
+    lentBuffers (P (e .before) .before .before .before .before .clear-nodes .last .0) (e .before .before .before .before .clear-potentials .last .0) (c .before .before .before .clear-steps .last .0)
+
+written : (c : tie.After-accepted) → let v = K (P (E (c .before) .before)) in let s = S (L v) in
+    Written (now (s .args .least)) (now (s .args .order)) (now (s .args .code)) (arcs (L v)) (s .args .n) (v .laid .given .0 .0 + s .args .k) (lent-to s) (left c)
+written c =
     let e = E (c .before) in
     let p = P (e .before) in
     let v = K p in
     let s = S (L v) in
-    let is = c .accepted .ensures ∙ ap (λ (z : ℤ). accepted z (s .args .q) (s .args .n) (v .laid .given .0 .0) (s .args .k)) (toZ-ofZ w64 (s .args .p) (s .fits .p)) in
-    λ o. settled-accepted (ap (λ (x : Answer). x .refusal) is)
-    (accepted-planned (s .pre .0) (s .pre .1 .1 .1) (sized (L v)) (laid v) (p .permute .ensures) (e .encode .ensures) o
-    (p .before .before .before .before .clear-nodes .ensures) (e .before .before .before .before .clear-potentials .ensures) (c .before .before .before .clear-steps .ensures) is)
+    let N = p .before .before .before .before .clear-nodes .ensures in
+    let D = e .before .before .before .before .clear-potentials .ensures in
+    let C = c .before .before .before .clear-steps .ensures in
+    let n = s .pre .0 .formed .few in
+    record {
+      potentials = λ i h. front-stays D i (omega (arith, n)) ∙ p .permute .ensures .is i (omega (arith, n));
+      potentials-rest = λ i h. zeros-behind D i (omega (arith, n));
+      codes = λ i h. front-stays C i (omega (arith, few v)) ∙ e .encode .ensures .is i (omega (arith, few v));
+      steps-rest = λ i h. zeros-behind C i (omega (arith, few v));
+      nodes = λ i h. front-stays N i (omega (arith, n));
+      nodes-rest = λ i h. zeros-behind N i (omega (arith, n));
+      lengths = record { nodes = length-stays N; potentials = length-stays D ∙ p .permute .ensures .sized; steps = length-stays C ∙ e .encode .ensures .sized };
+    }
+
+returns-2 : tie.Need-returns-2
+returns-2 c =
+    let v = K (P (E (c .before) .before)) in
+    let s = S (L v) in
+    λ o. settled-planned (accepted-planned (s .pre .0) (sized (L v)) (laid v) (written c) o (toZ-ofZ w64 (s .args .p) (s .fits .p)) (c .accepted .ensures))
 
 pub accept-spec : {M : Type 1} → statement M
 accept-spec =

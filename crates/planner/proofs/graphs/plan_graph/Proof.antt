@@ -9,7 +9,7 @@ use Rattle.ratio.specs.Answer.{RatioAnswered}
 use Rattle.contract.specs.Plan.{Buffers}
 use Rattle.contract.proofs.Exits.{no-cycle-reachable, cycle-earns-nothing}
 use Rattle.planner.specs.ContractTerms.{lentBuffers}
-use Rattle.planner.proofs.GraphLaws.{settled-refused, never, acyclic, idle, least, least-again, cyclic}
+use Rattle.planner.proofs.GraphLaws.{settled-refused, due-number, never, acyclic, idle, least, each-earns, least-again, cyclic}
 use borrow.Author.Needs.{needs}
 use Rattle.planner.proofs.graphs.plan_graph.Statement.{statement}
 use Rattle.planner.proofs.graphs.plan_graph.Tie as tie
@@ -91,13 +91,13 @@ refused-requires-3 c κs = search needs
 returns : tie.Need-returns
 returns c =
     let l = c .before .before .before .before .before in
-    λ o. settled-refused {after = lent-to (S l)} 13 (c .refused .ensures) (omega arith) (no-cycle-reachable (o .bytes) (o .before) (o .long) (o .checked) _ (o .explored)
+    λ o. settled-refused {after = lent-to (S l)} 13 (due-number (c .refused .ensures) (omega arith)) (omega arith) (no-cycle-reachable (o .bytes) (o .before) (o .long) (o .checked) _ (o .explored)
     (acyclic (S l .pre .0) (D l) (cycle l) (l .least-ratio .result) (judged l) (c .before .enum-told .given .1)))
 
 returns-2 : tie.Need-returns-2
 returns-2 c =
     let l = c .before .before .before .before .before in
-    λ o. settled-refused {after = lent-to (S l)} 14 (c .refused2 .ensures) (omega arith) (cycle-earns-nothing (o .bytes) (o .before) (o .long) (o .checked) _ (o .explored)
+    λ o. settled-refused {after = lent-to (S l)} 14 (due-number (c .refused2 .ensures) (omega arith)) (omega arith) (cycle-earns-nothing (o .bytes) (o .before) (o .long) (o .checked) _ (o .explored)
     (idle (S l .pre .0) (D l) (cycle l) (l .least-ratio .result) (judged l) (c .before .enum-told2 .given .1)))
 
 same-length : tie.Need-same-length
@@ -119,6 +119,7 @@ returns-3 c =
       cost = now (S l .args .cost);
       reward = now (S l .args .reward);
       of-sheet = o;
+      earns = each-earns (S l .pre .0) (D l) (cycle l) (l .least-ratio .result) (judged l) (g .0 .0) (g .0 .1 .0) (g .0 .1 .1 .0) (g .1);
       potential = _;
       arcs = _;
       least = least-again (S l .pre .0) (D l) (cycle l) (l .least-ratio .result) (judged l) (g .0 .0) (g .0 .1 .0) (g .0 .1 .1 .0) (g .1);

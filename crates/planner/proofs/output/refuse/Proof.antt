@@ -36,8 +36,8 @@ returns c =
     let s = d .before .before .before .before in (
       c .refused .ensures,
       (
-        d .clear-nodes .ensures ∙ cleared-whole 0 (now (s .args .nodes)),
-        (p .clear-potentials .ensures ∙ cleared-whole (pos 0) (now (s .args .potentials)), k .clear-steps .ensures ∙ cleared-whole 0 (now (s .args .steps))),
+        d .clear-nodes .ensures .is ∙ cleared-whole 0 (now (s .args .nodes)),
+        (p .clear-potentials .ensures .is ∙ cleared-whole (pos 0) (now (s .args .potentials)), k .clear-steps .ensures .is ∙ cleared-whole 0 (now (s .args .steps))),
       ),
     )
 

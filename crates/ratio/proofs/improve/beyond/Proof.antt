@@ -3,15 +3,16 @@ use Rattle.integers.proofs.Machine.{small}
 use Rattle.ratio.proofs.TurnLaws.{again-settled}
 use mathlib.Core.Path.{refl}
 use mathlib.Core.List.{List}
-use Prim.Native.Nat.{ℕ}
+use Prim.Native.Nat.{ℕ, _≤_}
 use borrow.Author.Needs.{needs}
 use native.Mathlib.Omega.{arith}
 use denote.Ref.{now}
 use lib.IntN.{ℤ, pos}
 use lib.ListN.{length, replicate}
 use Rattle.walks.specs.Cycles.{EachEarns}
+use Rattle.ratio.specs.Answer.{no-to-14, yes-to-both}
 use Rattle.ratio.proofs.Searches.{each-earns}
-use Rattle.ratio.proofs.VerdictLaws.{room, no-graph, found, none, idle-found, ratio-found}
+use Rattle.ratio.proofs.VerdictLaws.{room, no-graph, found, none, idle-found, copied-front, copied-rest}
 use Rattle.ratio.proofs.improve.beyond.Statement.{statement}
 use Rattle.ratio.proofs.improve.beyond.Tie as tie
 
@@ -87,7 +88,7 @@ returns-2 c =
     let k = c .enum-told2 .given in
     let g = found (now (s .args .from)) (now (s .args .to)) (now (s .args .cost)) (now (s .args .reward)) (s .args .nodes) 2049 (omega arith)
     (replicate 2048 (pos 0)) (D r) (replicate 2048 0) (arcs r) (r .negative-cycle .result) (r .negative-cycle .ensures) (k .0 .0) (k .1) in
-    (s .pre .0, idle-found (g .0) (g .1), record { potentials = refl; cycles = refl })
+    ((s .pre .0, no-to-14 refl (idle-found (g .0) (g .1))), record { potentials = refl; cycles = refl })
 
 same-length : tie.Need-same-length
 same-length c = T c .settle .kept .1 .1 .1 .1 .1 .0
@@ -101,9 +102,29 @@ same-length-3 c = T c .settle .kept .1 .1 .1 .1 .1 .1 .0
 returns-3 : tie.Need-returns-3
 returns-3 c =
     let t = T c in
-    let e = t .settle .ensures in (
-      S (K (t .before)) .pre .0,
-      ratio-found (earns (t .before .before .before)) (again-settled (small (t .settle .result .p) 20480001 (omega (arith, e .p-small)) (omega arith)) e) (c .before .before .arcs .ensures),
+    let p = t .settle .result .p in
+    let e = t .settle .ensures in
+    let l = again-settled (small p 20480001 (omega (arith, e .p-small)) (omega arith)) e in
+    let h = l .in-hand in
+    let copied = c .before .before .arcs in
+    let k = t .settle .result .arcs in
+    let hand = t .settle .last .1 .1 .1 .1 .1 .1 .0 in
+    let cycle = now (S (K (t .before)) .args .cycle) in
+    let cycle' = copied .last .1 .0 in
+    let fits : k ≤ length hand = omega (arith, h .short, h .room) in
+    let front = copied-front hand cycle cycle' k fits (copied .ensures) in (
+      (S (K (t .before)) .pre .0, yes-to-both refl _ (h .cycle) (earns (t .before .before .before))),
+      record {
+        short = h .short;
+        attained = rw front (h .cycle);
+        ratio = record { exact = rw front (l .ratio .exact); lowest = l .ratio .lowest };
+        p-small = l .p-small;
+        q-small = l .q-small;
+        none-below = l .none-below;
+        potentials = l .potentials;
+        rest-potential = l .rest;
+        rest-cycle = copied-rest hand cycle cycle' k fits (copied .ensures);
+      },
     )
 
 pub beyond-spec : {M : Type 1} → statement M
