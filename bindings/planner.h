@@ -17,8 +17,8 @@
  *     for as many entries as its count says, or for one number: the sheet for reading, all else for
  *     writing.
  *   - What one pointer lends overlaps with nothing that another lends.
- *   - Nothing else reads or writes the lent memory during the call, and nothing of it is kept after
- *     the call: there is nothing to release.
+ *   - During the call nothing else writes to the sheet, and nothing else reads or writes the rest.
+ *     No pointer is kept after the call: there is nothing to release.
  *   These are all the conditions: every sheet, node, code and count is answered, and every call
  *   returns.
  *
