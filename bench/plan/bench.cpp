@@ -1,98 +1,29 @@
 // Times the proved planner beside a C++ one on the same seeded sheets, prints tables and writes a plot.
-#include <algorithm>
-#include <chrono>
 #include <cstdio>
+#include <cstdlib>
+#include <map>
 #include <string>
 
 #include "make.hpp"
-#include "planner.hpp"
+#include "measure.hpp"
 #include "plot.hpp"
-#include "proved.hpp"
-#include "stack.hpp"
+#include "summary.hpp"
 
 namespace {
 
-struct Row {
-    Plan plan;
-    int clocks = 0;
-    double proved = 1e30, cpp = 1e30; // the least time of a call, in microseconds
-    bool agree = false;
-};
+std::map<std::vector<uint8_t>, Row> rows; // by sheet: one that two tables have is measured once
+Stack deepest;
 
-struct Answer {
-    int refusal = 0;
-    int64_t out[5] = {};
-    Buffers buffers;
-};
-
-size_t deepest = 0;
-bool failed = false;
-
-// The accepted sheets of at least so many nodes.
-struct Total {
-    unsigned least_nodes, sheets = 0;
-    double proved = 0, cpp = 0, ratios = 0;
-};
-Total all{0}, large{1800};
-
-void count(Total &total, const Row &row) {
-    if (row.plan.refusal || row.plan.nodes < total.least_nodes) return;
-    total.sheets++;
-    total.proved += row.proved;
-    total.cpp += row.cpp;
-    total.ratios += row.proved / row.cpp;
-}
-
-void print_total(const char *of, const Total &total) {
-    std::printf("%s: %u sheets, %.2f of the C++ time in all; mean of the rows' ratios %.2f.\n", of, total.sheets, total.proved / total.cpp,
-                total.ratios / total.sheets);
-}
-
-void call_proved(const std::vector<uint8_t> &bytes, Answer &a) {
-    a.refusal = planner_plan(bytes.data(), bytes.size(), a.buffers.nodes.data(), most_nodes, a.buffers.potentials.data(), most_nodes,
-                             a.buffers.steps.data(), most_nodes, a.out, 5);
-}
-
-bool same(const Answer &a, const Plan &b, const Buffers &buffers) {
-    return a.refusal == b.refusal && a.out[0] == b.p && a.out[1] == b.q && a.out[2] == int64_t(b.nodes) &&
-           a.buffers.nodes == buffers.nodes && a.buffers.potentials == buffers.potentials;
-}
-
-template <class Call> double microseconds(Call call) {
-    auto began = std::chrono::steady_clock::now();
-    call();
-    return std::chrono::duration<double, std::micro>(std::chrono::steady_clock::now() - began).count();
-}
-
-// Both by turns, 40 times and until 0.2 s are spent, at most 1,000 times.
-Row measure(const std::vector<uint8_t> &bytes) {
-    Row row;
-    Answer answer;
-    Buffers buffers;
-    double spent = 0;
-    for (int turn = 0; turn < 40 || (turn < 1000 && spent < 2e5); turn++) {
-        double proved = microseconds([&] { call_proved(bytes, answer); });
-        double cpp = microseconds([&] { row.plan = plan(bytes.data(), bytes.size(), buffers); });
-        row.proved = std::min(row.proved, proved);
-        row.cpp = std::min(row.cpp, cpp);
-        spent += proved + cpp;
-    }
-    row.clocks = bytes[2];
-    row.agree = same(answer, row.plan, buffers);
-    deepest = std::max(deepest, stack_of([&] { call_proved(bytes, answer); }));
-    return row;
-}
-
-void print_row(const Row &row) {
-    std::string nodes = std::to_string(row.plan.nodes), arcs = std::to_string(row.plan.arcs), note;
-    if (row.plan.refusal) {
-        nodes = "over 2048";
-        arcs = "refused " + std::to_string(row.plan.refusal);
-    }
+void print_row(const Row &row, size_t reachable) {
+    std::string nodes = std::to_string(reachable), arcs = std::to_string(row.plan.arcs), note;
+    if (row.plan.refusal) arcs = "refused " + std::to_string(row.plan.refusal);
+    if (row.plan.refusal == 12) nodes = "over 2048";
+    else if (reachable == 0) nodes = "not explored";
     if (std::string(row.plan.howard) != "least") note = std::string(", Boost's cycle: ") + row.plan.howard;
     if (!row.agree) note = ", THE ANSWERS DIFFER";
-    std::printf("| %s | %s | %d | %.0f | %.0f | %.2f%s |\n", nodes.c_str(), arcs.c_str(), row.clocks, row.proved, row.cpp, row.proved / row.cpp,
-                note.c_str());
+    int places = row.proved < 10 || row.cpp < 10; // of a short time
+    std::printf("| %s | %s | %d | %.*f | %.*f | %.2f%s |\n", nodes.c_str(), arcs.c_str(), row.clocks, places, row.proved, places, row.cpp,
+                row.proved / row.cpp, note.c_str());
     std::fflush(stdout);
 }
 
@@ -105,12 +36,10 @@ Row run_row(const Made &made, const char *what) {
         std::fprintf(stderr, "no seed gives %s\n", what);
         std::exit(2);
     }
-    Row row = measure(made.bytes);
-    failed = failed || !row.agree;
-    count(all, row);
-    count(large, row);
-    print_row(row);
-    return row;
+    auto [place, fresh] = rows.try_emplace(made.bytes);
+    if (fresh) place->second = measure(made.bytes, deepest);
+    print_row(place->second, made.nodes);
+    return place->second;
 }
 
 Panel grow_nodes(const char *title, Kind kind, const std::vector<unsigned> &counts) {
@@ -135,15 +64,37 @@ Panel grow_arcs(int clocks) {
     return panel;
 }
 
+void run_refused(const Kind &sparse, const Kind &dense) {
+    for (const Kind &kind : {Kind{2, 12, 10, 0, 0}, Kind{3, 12, 10, 0, 0}}) run_row(make_acyclic(kind, 400), "no cycle");
+    run_row(make_idle(sparse, 800), "an idle cycle");
+    run_row(make_idle(dense, 400), "an idle cycle");
+    run_row(make_too_long(sparse, 1950), "a byte too many");
+}
+
+size_t kilobytes(size_t bytes) { return (bytes + 1023) / 1024; }
+
+// Whether the answers agree and the stack is no deeper than it may be.
+bool good() {
+    bool agree = true;
+    for (const auto &[sheet, row] : rows) agree = agree && row.agree;
+    if (!agree) std::printf("The answers of the two planners differ.\n");
+    std::printf("\nPeak stack: planner_plan %zu KB, planner_step %zu KB, planner_check %zu KB; each has to stay under 2048 KB.\n",
+                kilobytes(deepest.plan), kilobytes(deepest.step), kilobytes(deepest.check));
+    return agree && deepest.plan < (2u << 20) && deepest.step < (2u << 20) && deepest.check < (2u << 20);
+}
+
 } // namespace
 
 int main(int count, char **words) {
-    if (count != 2) {
-        std::fprintf(stderr, "usage: %s PLOT.svg\n", words[0]);
+    if (count != 3) {
+        std::fprintf(stderr, "usage: %s PLOT.svg WHEN\n", words[0]);
         return 2;
     }
+    std::printf("%s\n", words[2]);
     const Kind sparse1{1, 0, 0, 3.2, 3.8}, sparse2{2, 0, 0, 3.2, 3.8}, sparse3{3, 0, 0, 3.2, 3.8};
     const Kind dense2{2, 1, 32, 25, 30}, dense3{3, 1, 32, 25, 30};
+    head("Bench");
+    run_row(make_bench(), "Bench");
     head("Growth in nodes, about 3.5 arcs a node");
     grow_nodes("sparse", sparse1, {50, 100, 200, 400});
     grow_nodes("sparse", sparse2, {50, 100, 200, 400, 800, 1400, 1950});
@@ -156,14 +107,14 @@ int main(int count, char **words) {
     grow_arcs(3);
     head("More nodes than a plan may have");
     for (const Kind &kind : {sparse2, sparse3, dense3}) run_row(make_overfull(kind), "too many nodes");
-    std::printf("\n");
-    print_total("Accepted", all);
-    print_total("Accepted, 1,800 nodes or more", large);
-    std::printf("Peak stack of planner_plan: %zu KB; it has to stay under 2048 KB.\n", (deepest + 1023) / 1024);
+    head("No cycle, an idle cycle, a byte too many");
+    run_refused(sparse2, {3, 1, 31, 25, 30});
+    std::vector<Row> all;
+    for (const auto &[sheet, row] : rows) all.push_back(row);
+    print_summary(all);
     if (!write_plot(words[1], {nodes, arcs})) {
         std::fprintf(stderr, "cannot write %s\n", words[1]);
         return 2;
     }
-    if (failed) std::printf("The answers of the two planners differ.\n");
-    return failed || deepest >= (2u << 20);
+    return good() ? 0 : 1;
 }

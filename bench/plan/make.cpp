@@ -62,17 +62,20 @@ template <class Wanted> Made first(const Kind &kind, Wanted wanted) {
         Sheet sheet;
         Graph graph;
         if (read_sheet(bytes.data(), bytes.size(), sheet)) continue;
-        if (wanted(explore(sheet, graph), graph)) return {bytes, seed};
+        bool whole = explore(sheet, graph);
+        if (wanted(whole, graph)) return {bytes, whole ? graph.numbers.size() : 0};
     }
     return {};
 }
+
+bool near(size_t count, unsigned wanted) { return wanted * 0.95 <= double(count) && double(count) <= wanted * 1.05; }
 
 } // namespace
 
 Made make_sheet(const Kind &kind, unsigned nodes) {
     return first(kind, [&](bool whole, const Graph &graph) {
-        double n = double(graph.numbers.size()), density = double(graph.arcs.size()) / n;
-        if (!whole || n < nodes * 0.95 || nodes * 1.05 < n || density < kind.least_density || kind.most_density < density) return false;
+        double density = double(graph.arcs.size()) / double(graph.numbers.size());
+        if (!whole || !near(graph.numbers.size(), nodes) || density < kind.least_density || kind.most_density < density) return false;
         return cyclic(graph, 10000) && !cyclic(graph, 0);
     });
 }
@@ -80,3 +83,25 @@ Made make_sheet(const Kind &kind, unsigned nodes) {
 Made make_overfull(const Kind &kind) {
     return first(kind, [](bool whole, const Graph &) { return !whole; });
 }
+
+Made make_acyclic(const Kind &kind, unsigned nodes) {
+    return first(kind, [&](bool whole, const Graph &graph) { return whole && near(graph.numbers.size(), nodes) && !cyclic(graph, 10000); });
+}
+
+Made make_idle(const Kind &kind, unsigned nodes) {
+    Made made = make_sheet(kind, nodes);
+    if (made.bytes.empty() || made.bytes[3] == 32) return {};
+    made.bytes[3]++;
+    // no field; source and target are location 0
+    made.bytes.insert(made.bytes.end(), {0, 0, 0, 0});
+    return made;
+}
+
+Made make_too_long(const Kind &kind, unsigned nodes) {
+    Made made = make_sheet(kind, nodes);
+    if (made.bytes.empty()) return {};
+    made.bytes.push_back(0);
+    return {made.bytes, 0};
+}
+
+Made make_bench() { return {{1, 1, 1, 1, 5, 1, 0, 5, 15, 0, 0, 0, 5, 0, 2, 0, 1, 2}, 7}; }

@@ -1,5 +1,6 @@
 // Seeded sheets of a wanted size.
 #pragma once
+#include <cstddef>
 #include <cstdint>
 #include <vector>
 
@@ -10,7 +11,7 @@ struct Kind {
 
 struct Made {
     std::vector<uint8_t> bytes; // empty where none was found
-    unsigned seed = 0;
+    size_t nodes = 0;           // the reachable ones, where they were counted to the end
 };
 
 // The first sheet of the kind, by rising seed, that a planner accepts with the wanted count of nodes, give or take a twentieth.
@@ -18,3 +19,15 @@ Made make_sheet(const Kind &kind, unsigned nodes);
 
 // The first sheet of the kind with more nodes than a plan may have.
 Made make_overfull(const Kind &kind);
+
+// The first sheet of the kind with the wanted count of nodes and no cycle.
+Made make_acyclic(const Kind &kind, unsigned nodes);
+
+// The sheet that make_sheet gives, and one edge more that leads from location 0 back to it and earns nothing.
+Made make_idle(const Kind &kind, unsigned nodes);
+
+// The sheet that make_sheet gives, and one byte more.
+Made make_too_long(const Kind &kind, unsigned nodes);
+
+// The paper's sheet of eighteen bytes.
+Made make_bench();

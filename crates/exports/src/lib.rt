@@ -1,11 +1,11 @@
-// The planner for programs in C and Rust. A slice crosses as a pointer and a count.
-// Each function answers the refusal; its numbers go to the front of out, and are 0 where it is not 0. Too short an out is told by 255, before all
-// else, and nothing is written.
+// The planner for programs in C and Rust, declared to them in bindings/. A slice crosses as a pointer and a count, a number to be written as a pointer.
+// Each function answers the refusal, and writes each of its numbers in every call; they are 0 where it refuses.
 ghost use mathlib.Core.Path.{_≡_};
 ghost use lib.IntN.{pos};
 ghost use Rattle.sheet.specs.Questions.{checkOf};
+ghost use Rattle.step.specs.Step.{stepOf};
 ghost use Rattle.planner.specs.ContractTerms.{lentBuffers};
-ghost use Rattle.exports.specs.Told.{stepRefusal, stepOut, PlanTold};
+ghost use Rattle.exports.specs.ExportedPlan.{ExportedPlan};
 
 fn word(x: u32) -> i64
     ensures { λ r. ⌜ r ≡ pos x ⌝ }
@@ -33,43 +33,51 @@ pub extern "C" fn planner_check(sheet: &[u8]) -> u8
     sheet::check(sheet)
 }
 
-// A single step; out gets the new node's number, the cost and the reward.
+// A single step: the new node's number, the cost and the reward.
 #[no_mangle]
-pub extern "C" fn planner_step(sheet: &[u8], node: u32, code: u16, out: &mut [i64]) -> u8
-    ensures { λ r. ⌜ r ≡ stepRefusal (now (sheet .entry)) node code (now (out .entry)) ⌝ ∗
-        ⌜ now (out .exit) ≡ stepOut (now (sheet .entry)) node code (now (out .entry)) ⌝ }
+pub extern "C" fn planner_step(
+    sheet: &[u8],
+    node: u32,
+    code: u16,
+    number: &mut u32,
+    cost: &mut i64,
+    reward: &mut i64,
+) -> u8
+    ensures { λ r. ⌜ r ≡ stepOf (now (sheet .entry)) node code .refusal ⌝ }
+    ensures { λ _. ⌜ now (number .exit) ≡ stepOf (now (sheet .entry)) node code .number ⌝ }
+    ensures { λ _. ⌜ now (cost .exit) ≡ stepOf (now (sheet .entry)) node code .cost ⌝ }
+    ensures { λ _. ⌜ now (reward .exit) ≡ pos (stepOf (now (sheet .entry)) node code .reward) ⌝ }
 {
-    if out.len() < 3 {
-        return 255;
-    }
     let s = step::step(sheet, node, code);
-    out[0] = word(s.number);
-    out[1] = wide(s.cost);
-    out[2] = half(s.reward);
+    *number = s.number;
+    *cost = wide(s.cost);
+    *reward = half(s.reward);
     s.refusal
 }
 
-// A plan; out gets p, q, n, s and m.
+// A plan: the ratio p / q, n reachable nodes, a stem of s steps and a cycle of m.
 #[no_mangle]
 pub extern "C" fn planner_plan(
     sheet: &[u8],
     nodes: &mut [u32],
     potentials: &mut [i64],
     steps: &mut [u16],
-    out: &mut [i64],
+    p: &mut i64,
+    q: &mut i64,
+    n: &mut i64,
+    s: &mut i64,
+    m: &mut i64,
 ) -> u8
-    ensures { λ r. ⌜ PlanTold (now (sheet .entry)) (lentBuffers (now (nodes .entry)) (now (potentials .entry)) (now (steps .entry)))
-        (lentBuffers (now (nodes .exit)) (now (potentials .exit)) (now (steps .exit))) (now (out .entry)) (now (out .exit)) r ⌝ }
+    ensures { λ r. ⌜ ExportedPlan (now (sheet .entry)) (lentBuffers (now (nodes .entry)) (now (potentials .entry)) (now (steps .entry)))
+        (lentBuffers (now (nodes .exit)) (now (potentials .exit)) (now (steps .exit))) r (now (p .exit)) (now (q .exit)) (now (n .exit))
+        (now (s .exit)) (now (m .exit)) ⌝ }
 {
-    if out.len() < 5 {
-        return 255;
-    }
     let a = planner::plan(sheet, nodes, potentials, steps);
-    let p = a.p;
-    out[0] = p;
-    out[1] = word(a.q);
-    out[2] = half(a.n);
-    out[3] = half(a.s);
-    out[4] = half(a.m);
+    let upper = a.p;
+    *p = upper;
+    *q = word(a.q);
+    *n = half(a.n);
+    *s = half(a.s);
+    *m = half(a.m);
     a.refusal
 }

@@ -5,10 +5,12 @@ use crate::expected::expect;
 use crate::fault::Planner;
 use crate::hexadecimal;
 use crate::judge_plan::{judge_plan, same, Verdict};
-use crate::judge_step::expected_step;
+use crate::judge_step::{expected_step, Answer};
+use crate::lent::step_numbers;
 use crate::random::Random;
 use crate::sha256::digest;
 use crate::sheet::read;
+use planner::lent::StepNumbers;
 
 pub struct Row {
     pub sheet: Vec<u8>,
@@ -49,15 +51,17 @@ fn judge_check(planner: &Planner, row: &Row) -> Verdict<()> {
     same("check", planner.check(&row.sheet), frozen)
 }
 
-fn judge_step(planner: &Planner, row: &Row) -> Verdict<()> {
+fn judge_step(planner: &Planner, row: &Row, random: &mut Random) -> Verdict<()> {
     let (node, code) = (row.number(1)?, row.number(2)?);
-    let frozen: (u8, [i64; 3]) = (row.number(3)?, [row.number(4)?, row.number(5)?, row.number(6)?]);
+    let numbers =
+        StepNumbers { number: row.number(4)?, cost: row.number(5)?, reward: row.number(6)? };
+    let frozen: Answer = (row.number(3)?, numbers);
     let read = read(&row.sheet);
     let here = expected_step(read.as_ref().map_err(|refusal| *refusal), node, code);
     same("step: here and on file", here, frozen)?;
-    let mut out = [-1; 3];
-    let refusal = planner.step(&row.sheet, node, code, &mut out);
-    same("step", (refusal, out), frozen)
+    let mut numbers = step_numbers(random);
+    let refusal = planner.step(&row.sheet, node, code, &mut numbers);
+    same("step", (refusal, numbers), frozen)
 }
 
 fn judge_plan_row(planner: &Planner, row: &Row, random: &mut Random) -> Verdict<()> {
@@ -90,7 +94,7 @@ pub fn run(arguments: &Arguments) -> Verdict<()> {
     }
     let steps = rows(folder, "step.tsv", 7)?;
     for row in &steps {
-        judge_step(&planner, row).map_err(named(row))?;
+        judge_step(&planner, row, random).map_err(named(row))?;
     }
     let plans = rows(folder, "plan.tsv", 6)?;
     for row in &plans {

@@ -1,10 +1,9 @@
 //! The library's answers, with a planted fault between the library and the comparison if asked.
 
-use crate::expected::{expect, weighted};
 use crate::explore::MOST_NODES;
-use crate::judge_lasso::LASSO_OUT;
-use crate::library::{self, Buffers};
-use crate::weights::least_weights;
+use crate::lent::Buffers;
+use crate::planted::{accepted, refused};
+use planner::lent::{self, PlanNumbers, StepNumbers};
 
 #[derive(Clone, Copy, Debug, PartialEq)]
 pub enum Fault {
@@ -36,8 +35,10 @@ pub enum Fault {
     Write,
     /// A refusal from 12 on leaves an entry.
     Leave,
-    /// A later entry of `out` is written.
-    Later,
+    /// A refused plan leaves one of its numbers as it was.
+    Unwritten,
+    /// A refused step leaves its cost as it was.
+    Stale,
     /// A short buffer is not refused first.
     Short,
     /// The check answers 9 in place of 8.
@@ -50,7 +51,7 @@ pub enum Fault {
     Number,
 }
 
-pub const FAULTS: [(&str, Fault); 20] = [
+pub const FAULTS: [(&str, Fault); 21] = [
     ("high", Fault::High),
     ("low", Fault::Low),
     ("terms", Fault::Terms),
@@ -65,7 +66,8 @@ pub const FAULTS: [(&str, Fault); 20] = [
     ("no-cycle", Fault::NoCycle),
     ("write", Fault::Write),
     ("leave", Fault::Leave),
-    ("later", Fault::Later),
+    ("unwritten", Fault::Unwritten),
+    ("stale", Fault::Stale),
     ("short", Fault::Short),
     ("check", Fault::Check),
     ("step", Fault::Step),
@@ -77,122 +79,58 @@ pub struct Planner {
     pub fault: Option<Fault>,
 }
 
-pub fn divisor(a: i64, b: i64) -> i64 {
-    if b == 0 {
-        a.abs()
-    } else {
-        divisor(b, a % b)
-    }
-}
-
-fn set_ratio(out: &mut [i64], p: i64, q: i64) {
-    let common = divisor(p, q);
-    out[0] = p / common;
-    out[1] = q / common;
-}
-
-fn lower_ratio(sheet: &[u8], buffers: &mut Buffers, out: &mut [i64]) {
-    set_ratio(out, out[0] - 1, out[1]);
-    let graph = expect(sheet).graph.expect("an accepted sheet has a graph");
-    let least = least_weights(graph.numbers.len(), &weighted(&graph, out[0], out[1]));
-    let least = least.expect("no cycle is below a lower ratio");
-    for (number, weight) in graph.numbers.iter().zip(least) {
-        let at = buffers.nodes[..graph.numbers.len()].binary_search(number).expect("a listed node");
-        buffers.potentials[at] = weight as i64;
-    }
-}
-
-fn swap_steps(steps: &mut [u16]) {
-    match (1..steps.len()).find(|&at| steps[at] != steps[at - 1]) {
-        Some(at) => steps.swap(at - 1, at),
-        None => steps[0] = 33 - steps[0].min(33),
-    }
-}
-
 impl Planner {
     pub fn check(&self, sheet: &[u8]) -> u8 {
-        match (self.fault, library::check(sheet)) {
+        match (self.fault, lent::check(sheet)) {
             (Some(Fault::Check), 8) => 9,
             (_, refusal) => refusal,
         }
     }
 
-    pub fn step(&self, sheet: &[u8], node: u32, code: u16, out: &mut [i64]) -> u8 {
-        let along_lasso = out.len() == LASSO_OUT;
-        let swapped = self.fault == Some(Fault::Step) && !along_lasso && (code == 32 || code == 33);
+    pub fn step(&self, sheet: &[u8], node: u32, code: u16, numbers: &mut StepNumbers) -> u8 {
+        let swapped = self.fault == Some(Fault::Step) && (code == 32 || code == 33);
         let code = if swapped { 65 - code } else { code };
-        let refusal = library::step(sheet, node, code, out);
+        let before = *numbers;
+        let refusal = lent::step(sheet, node, code, numbers);
         match (self.fault, refusal) {
-            (Some(Fault::Prices), 0) if along_lasso => out.swap(1, 2),
             (Some(Fault::Number), 15) => return 16,
+            (Some(Fault::Stale), 2..) => numbers.cost = before.cost,
             _ => {}
         }
         refusal
     }
 
-    pub fn plan(&self, sheet: &[u8], buffers: &mut Buffers, out: &mut [i64]) -> u8 {
-        let refusal = library::plan(sheet, buffers, out);
+    pub fn lasso_step(&self, sheet: &[u8], node: u32, code: u16, numbers: &mut StepNumbers) -> u8 {
+        let refusal = lent::step(sheet, node, code, numbers);
+        if self.fault == Some(Fault::Prices) {
+            (numbers.cost, numbers.reward) = (numbers.reward, numbers.cost);
+        }
+        refusal
+    }
+
+    pub fn plan(&self, sheet: &[u8], buffers: &mut Buffers, numbers: &mut PlanNumbers) -> u8 {
+        let before = *numbers;
+        let Buffers { nodes, potentials, steps } = buffers;
+        let refusal = lent::plan(sheet, nodes, potentials, steps, numbers);
         match (self.fault, refusal) {
             (None, _) => refusal,
-            (Some(fault), 0) => accepted(fault, sheet, buffers, out),
-            (Some(fault), _) => refused(fault, refusal, buffers, out),
+            (Some(fault), 0) => accepted(fault, sheet, buffers, numbers),
+            (Some(Fault::Unwritten), 2..) => {
+                numbers.m = before.m;
+                refusal
+            }
+            (Some(fault), _) => refused(fault, refusal, buffers),
         }
     }
 
-    /// The refusal and the five numbers of a plan.
-    pub fn answer(&self, sheet: &[u8]) -> (u8, [i64; 5]) {
+    /// The refusal and the numbers of a plan.
+    pub fn answer(&self, sheet: &[u8]) -> (u8, PlanNumbers) {
         let mut buffers = Buffers {
             nodes: vec![0; MOST_NODES],
             potentials: vec![0; MOST_NODES],
             steps: vec![0; MOST_NODES],
         };
-        let mut out = [0; 5];
-        (self.plan(sheet, &mut buffers, &mut out), out)
+        let mut numbers = PlanNumbers::default();
+        (self.plan(sheet, &mut buffers, &mut numbers), numbers)
     }
-}
-
-fn refuse(refusal: u8, buffers: &mut Buffers, out: &mut [i64]) -> u8 {
-    buffers.nodes.fill(0);
-    buffers.potentials.fill(0);
-    buffers.steps.fill(0);
-    out[..5].fill(0);
-    refusal
-}
-
-fn accepted(fault: Fault, sheet: &[u8], buffers: &mut Buffers, out: &mut [i64]) -> u8 {
-    let n = out[2] as usize;
-    match fault {
-        Fault::High => set_ratio(out, out[0] + 1, out[1]),
-        Fault::Low => lower_ratio(sheet, buffers, out),
-        Fault::Terms => (out[0], out[1]) = (2 * out[0], 2 * out[1]),
-        Fault::Potential => buffers.potentials[n - 1] += 1,
-        Fault::Node if n < buffers.nodes.len() => {
-            buffers.nodes[n] = buffers.nodes[n - 1] + 1;
-            out[2] += 1;
-        }
-        Fault::Missing => {
-            (buffers.nodes[n - 1], buffers.potentials[n - 1]) = (0, 0);
-            out[2] -= 1;
-        }
-        Fault::Entry => buffers.nodes[n - 1] += 1,
-        Fault::Lasso => swap_steps(&mut buffers.steps[..(out[3] + out[4]) as usize]),
-        Fault::Rest => *buffers.steps.last_mut().expect("a long buffer") = 1,
-        Fault::Later if out.len() > 5 => out[5] = 0,
-        Fault::Border if n == MOST_NODES => return refuse(12, buffers, out),
-        Fault::NoCycle => return refuse(13, buffers, out),
-        _ => {}
-    }
-    0
-}
-
-fn refused(fault: Fault, refusal: u8, buffers: &mut Buffers, out: &mut [i64]) -> u8 {
-    match (fault, refusal) {
-        (Fault::Refusal, 14) => return 13,
-        (Fault::Write, 2..=11) => *buffers.potentials.last_mut().expect("a long buffer") = 0,
-        (Fault::Leave, 12..=14) => *buffers.potentials.last_mut().expect("a long buffer") = 7,
-        (Fault::Later, 2..) if out.len() > 5 => out[5] = 0,
-        (Fault::Short, 1) => return 2,
-        _ => {}
-    }
-    refusal
 }

@@ -11,8 +11,8 @@ use crate::kinds::generate;
 use std::io::Write;
 
 fn ratio(planner: &Planner, bytes: &[u8]) -> Option<(i64, i64)> {
-    let (refusal, out) = planner.answer(bytes);
-    (refusal == 0).then_some((out[0], out[1]))
+    let (refusal, numbers) = planner.answer(bytes);
+    (refusal == 0).then_some((numbers.p, numbers.q))
 }
 
 /// One line `graph NAME SHEET P Q NODES ARCS`, then a line for each arc.

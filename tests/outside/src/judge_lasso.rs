@@ -2,13 +2,14 @@
 
 use crate::fault::Planner;
 use crate::judge_plan::{same, Verdict};
-use crate::library::Buffers;
+use crate::lent::Buffers;
 use crate::region::{node_of, step};
 use crate::sheet::Sheet;
+use planner::lent::{PlanNumbers, StepNumbers};
 use std::collections::HashSet;
 
-/// The length of the `out` lent to a step along a lasso; other steps are lent shorter ones.
-pub const LASSO_OUT: usize = 8;
+/// What no step writes.
+const UNWRITTEN: StepNumbers = StepNumbers { number: u32::MAX, cost: i64::MIN, reward: i64::MIN };
 
 /// A step along the lasso, taken here and by the library: the next node, its cost and reward.
 fn take(
@@ -21,13 +22,10 @@ fn take(
     let node = node_of(sheet, number).expect("a lasso is stepped from node to node");
     let (next, cost, reward) = step(sheet, &node, code)
         .ok_or_else(|| format!("lasso: code {code} is not allowed at node {number}"))?;
-    let mut out = [0; LASSO_OUT];
-    same("lasso: the library's own step", planner.step(bytes, number, code, &mut out), 0)?;
-    same(
-        "lasso: the library's own step",
-        &out[..3],
-        &[i64::from(next.number()), cost, reward][..],
-    )?;
+    let here = StepNumbers { number: next.number(), cost, reward };
+    let mut numbers = UNWRITTEN;
+    let refusal = planner.lasso_step(bytes, number, code, &mut numbers);
+    same("lasso: the library's own step", (refusal, numbers), (0, here))?;
     Ok((next.number(), cost, reward))
 }
 
@@ -36,9 +34,9 @@ pub fn judge_lasso(
     bytes: &[u8],
     sheet: &Sheet,
     buffers: &Buffers,
-    out: &[i64],
+    numbers: &PlanNumbers,
 ) -> Verdict<()> {
-    let [p, q, n, s, m] = [out[0], out[1], out[2], out[3], out[4]];
+    let PlanNumbers { p, q, n, s, m } = *numbers;
     if s < 0 || m < 1 || s > n || m > n || s + m > n {
         return Err(format!("lasso: a stem of {s} and a cycle of {m} steps with {n} nodes"));
     }

@@ -2,12 +2,13 @@
 
 use crate::expected::{weighted, Expected};
 use crate::explore::{Graph, MOST_NODES};
-use crate::fault::{divisor, Planner};
+use crate::fault::Planner;
 use crate::judge_lasso::judge_lasso;
-use crate::library::Buffers;
+use crate::lent::{self, Buffers};
 use crate::random::Random;
 use crate::region::UNIT;
 use crate::weights::least_weights;
+use planner::lent::PlanNumbers;
 
 pub type Verdict<T> = Result<T, String>;
 
@@ -37,19 +38,6 @@ pub fn same<T: PartialEq + std::fmt::Debug>(what: &str, library: T, here: T) -> 
     Err(format!("{what}: the library has {library:?}, expected {here:?}"))
 }
 
-/// Buffers with random entries, so that what is written and what is not can be seen.
-fn lend(random: &mut Random, lengths: [usize; 3]) -> Buffers {
-    Buffers {
-        nodes: (0..lengths[0]).map(|_| random.next() as u32 | 1).collect(),
-        potentials: (0..lengths[1]).map(|_| random.next() as i64 | 1).collect(),
-        steps: (0..lengths[2]).map(|_| random.next() as u16 | 1).collect(),
-    }
-}
-
-pub fn lend_out(random: &mut Random, length: usize) -> Vec<i64> {
-    (0..length).map(|_| random.next() as i64 | 1).collect()
-}
-
 fn untouched(what: &str, after: &Buffers, before: &Buffers) -> Verdict<()> {
     if after == before {
         return Ok(());
@@ -64,25 +52,15 @@ fn all_zero(what: &str, zero: bool) -> Verdict<()> {
     Err(format!("{what}: an entry is not 0"))
 }
 
-/// An `out` that is too short gets 255, and short buffers get 1; neither writes to a buffer.
+/// A short buffer gets 1, whatever the sheet; no buffer is written to, and the numbers are 0.
 fn judge_short(planner: &Planner, bytes: &[u8], random: &mut Random) -> Verdict<()> {
-    let mut buffers = lend(random, [MOST_NODES; 3]);
-    let before = buffers.clone();
-    let length = random_short(random, 5);
-    let mut out = lend_out(random, length);
-    let out_before = out.clone();
-    same("short out", planner.plan(bytes, &mut buffers, &mut out), 255)?;
-    same("short out: its entries", out, out_before)?;
-    untouched("short out", &buffers, &before)?;
-
     let mut lengths = [MOST_NODES; 3].map(|least| least + random.below(2) * random.below(100));
     lengths[random.below(3)] = random_short(random, MOST_NODES);
-    let mut buffers = lend(random, lengths);
+    let mut buffers = lent::buffers(random, lengths);
     let before = buffers.clone();
-    let mut out = lend_out(random, 6);
-    let later = out[5];
-    same("short buffer", planner.plan(bytes, &mut buffers, &mut out), 1)?;
-    same("short buffer: out", out, vec![0, 0, 0, 0, 0, later])?;
+    let mut numbers = lent::plan_numbers(random);
+    same("short buffer", planner.plan(bytes, &mut buffers, &mut numbers), 1)?;
+    same("short buffer: the numbers", numbers, PlanNumbers::default())?;
     untouched("short buffer", &buffers, &before)
 }
 
@@ -91,6 +69,14 @@ fn random_short(random: &mut Random, enough: usize) -> usize {
         0 => enough - 1,
         1 => 0,
         _ => random.below(enough),
+    }
+}
+
+pub fn divisor(a: i64, b: i64) -> i64 {
+    if b == 0 {
+        a.abs()
+    } else {
+        divisor(b, a % b)
     }
 }
 
@@ -137,18 +123,18 @@ fn judge_accepted(
     bytes: &[u8],
     expected: &Expected,
     buffers: &Buffers,
-    out: &[i64],
+    numbers: &PlanNumbers,
 ) -> Verdict<Answer> {
-    let (p, q) = (out[0], out[1]);
+    let PlanNumbers { p, q, n, s, m } = *numbers;
     let graph = expected.graph.as_ref().expect("an accepted sheet has a graph");
     judge_ratio(p, q)?;
-    let count = judge_nodes(graph, buffers, out[2])?;
+    let count = judge_nodes(graph, buffers, n)?;
     judge_potentials(graph, buffers, p, q)?;
     let sheet = expected.sheet.as_ref().expect("an accepted sheet is read");
-    judge_lasso(planner, bytes, sheet, buffers, out)?;
+    judge_lasso(planner, bytes, sheet, buffers, numbers)?;
     let nodes = buffers.nodes[..count].iter().flat_map(|number| number.to_le_bytes());
     let potentials = &buffers.potentials[..count];
-    let (stem, length) = (out[3] as usize, (out[3] + out[4]) as usize);
+    let (stem, length) = (s as usize, (s + m) as usize);
     Ok(Answer {
         p,
         q,
@@ -169,19 +155,16 @@ pub fn judge_plan(
     judge_short(planner, bytes, random)?;
     let longer = random.percent(50);
     let lengths = [0; 3].map(|_| MOST_NODES + if longer { 1 + random.below(1500) } else { 0 });
-    let mut buffers = lend(random, lengths);
+    let mut buffers = lent::buffers(random, lengths);
     let before = buffers.clone();
-    let length = 5 + random.below(4);
-    let mut out = lend_out(random, length);
-    let later = out[5..].to_vec();
-    let refusal = planner.plan(bytes, &mut buffers, &mut out);
+    let mut numbers = lent::plan_numbers(random);
+    let refusal = planner.plan(bytes, &mut buffers, &mut numbers);
     same("refusal of the plan", refusal, expected.refusal)?;
-    same("later entries of out", &out[5..], &later[..])?;
     if refusal == 0 {
-        let answer = judge_accepted(planner, bytes, expected, &buffers, &out)?;
+        let answer = judge_accepted(planner, bytes, expected, &buffers, &numbers)?;
         return Ok(Judged { longer, answer: Some(answer) });
     }
-    same("out of a refused plan", &out[..5], &[0; 5][..])?;
+    same("numbers of a refused plan", numbers, PlanNumbers::default())?;
     if refusal < 12 {
         untouched("refused plan", &buffers, &before)?;
     } else {

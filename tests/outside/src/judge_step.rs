@@ -2,23 +2,28 @@
 
 use crate::expected::Expected;
 use crate::fault::Planner;
-use crate::judge_plan::{lend_out, same, Verdict};
+use crate::judge_plan::{same, Verdict};
+use crate::lent::step_numbers;
 use crate::random::Random;
 use crate::region::{node_of, step, Node};
 use crate::sheet::Sheet;
 use crate::tally::Tally;
+use planner::lent::StepNumbers;
 
-/// The refusal, the new node's number, the cost and the reward.
-pub fn expected_step(bytes_read: Result<&Sheet, u8>, number: u32, code: u16) -> (u8, [i64; 3]) {
+/// The refusal, and the new node's number, the cost and the reward.
+pub type Answer = (u8, StepNumbers);
+
+pub fn expected_step(bytes_read: Result<&Sheet, u8>, number: u32, code: u16) -> Answer {
+    let refused = |refusal| (refusal, StepNumbers::default());
     let sheet = match bytes_read {
         Ok(sheet) => sheet,
-        Err(refusal) => return (refusal, [0; 3]),
+        Err(refusal) => return refused(refusal),
     };
     match node_of(sheet, number) {
-        None => (15, [0; 3]),
+        None => refused(15),
         Some(node) => match step(sheet, &node, code) {
-            None => (16, [0; 3]),
-            Some((next, cost, reward)) => (0, [i64::from(next.number()), cost, reward]),
+            None => refused(16),
+            Some((next, cost, reward)) => (0, StepNumbers { number: next.number(), cost, reward }),
         },
     }
 }
@@ -53,30 +58,6 @@ fn numbers(expected: &Expected, random: &mut Random) -> Vec<u32> {
     numbers
 }
 
-fn judge_one(
-    planner: &Planner,
-    bytes: &[u8],
-    (number, code): (u32, u16),
-    (refusal, result): (u8, [i64; 3]),
-    random: &mut Random,
-) -> Verdict<()> {
-    let what = format!("step {code} at {number}");
-    let length = 3 + random.below(3);
-    let mut out = lend_out(random, length);
-    let later = out[3..].to_vec();
-    same(&what, planner.step(bytes, number, code, &mut out), refusal)?;
-    same(&what, &out[..3], &result[..])?;
-    same(&format!("{what}: later entries of out"), &out[3..], &later[..])
-}
-
-fn judge_short(planner: &Planner, bytes: &[u8], number: u32, random: &mut Random) -> Verdict<()> {
-    let length = random.below(3);
-    let mut out = lend_out(random, length);
-    let before = out.clone();
-    same("step with a short out", planner.step(bytes, number, 33, &mut out), 255)?;
-    same("step with a short out: its entries", out, before)
-}
-
 /// Every code from 0 to 40 and some far beyond, at nodes and at other numbers.
 pub fn judge_steps(
     planner: &Planner,
@@ -86,19 +67,20 @@ pub fn judge_steps(
     tally: &mut Tally,
 ) -> Verdict<()> {
     let read = expected.sheet.as_ref().ok_or(expected.refusal);
-    let mut answers = [0; 256];
+    let mut answers = [0; 17];
     for number in numbers(expected, random) {
         let far = [255, 256, 256 + 32, 256 + 33, 1 << 15 | 32, 65_535, random.next() as u16];
         for code in (0..=40).chain(far) {
             let answer = expected_step(read, number, code);
-            judge_one(planner, bytes, (number, code), answer, random)?;
+            let mut numbers = step_numbers(random);
+            let refusal = planner.step(bytes, number, code, &mut numbers);
+            same(&format!("step {code} at {number}"), refusal, answer.0)?;
+            same(&format!("numbers of step {code} at {number}"), numbers, answer.1)?;
             answers[usize::from(answer.0)] += 1;
         }
-        judge_short(planner, bytes, number, random)?;
-        answers[255] += 1;
     }
     for (answer, &count) in answers.iter().enumerate().filter(|(_, &count)| count > 0) {
-        tally.add(format!("step answers: {answer:>3}"), count);
+        tally.add(format!("step answers: {answer:>2}"), count);
     }
     Ok(())
 }

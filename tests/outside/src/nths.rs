@@ -61,9 +61,9 @@ fn judge_sheet(planner: &Planner, sheet: &Sheet, bytes: &[u8], tally: &mut Tally
             return Ok(());
         }
     };
-    let (refusal, out) = planner.answer(bytes);
+    let (refusal, numbers) = planner.answer(bytes);
     match refusal {
-        0 => judge_accepted(sheet, &all, out[0], out[1], tally)?,
+        0 => judge_accepted(sheet, &all, numbers.p, numbers.q, tally)?,
         13 => {
             if let Some(at) = all.iter().position(some_loop) {
                 return Err(format!("refused 13, but a run in nths, n = {}, comes back", at + 1));

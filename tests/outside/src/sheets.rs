@@ -19,9 +19,8 @@ pub fn judge(planner: &Planner, bytes: &[u8], seed: u64, tally: &mut Tally) -> V
     judge_check(planner, bytes, &expected, random, tally)?;
     let judged = judge_plan(planner, bytes, &expected, random)?;
     judge_steps(planner, bytes, &expected, random, tally)?;
-    tally.count("plan answers:   1");
-    tally.count("plan answers: 255");
-    tally.count(format!("plan answers: {:>3}", expected.refusal));
+    tally.count("plan answers:  1");
+    tally.count(format!("plan answers: {:>2}", expected.refusal));
     if bytes.len() == 580 {
         tally.count("length: 580 bytes");
     }

@@ -1,0 +1,65 @@
+#include "summary.hpp"
+
+#include <algorithm>
+#include <cmath>
+#include <cstdio>
+
+namespace {
+
+struct Group {
+    const char *name;
+    int least_refusal, most_refusal;
+    size_t least_nodes, most_nodes; // of the accepted
+};
+
+constexpr size_t any = size_t(-1);
+constexpr size_t bench_nodes = 7; // no other sheet is so small
+
+const Group groups[] = {
+    {"accepted, all", 0, 0, 0, any},
+    {"accepted, under 200 nodes", 0, 0, 0, 199},
+    {"accepted, 200 to 1,799 nodes", 0, 0, 200, 1799},
+    {"accepted, 1,800 nodes or more", 0, 0, 1800, any},
+    {"Bench alone, 7 nodes", 0, 0, bench_nodes, bench_nodes},
+    {"refused with 12", 12, 12, 0, any},
+    {"refused with 13 or 14", 13, 14, 0, any},
+    {"refused by the check", 2, 11, 0, any},
+};
+
+bool belongs(const Group &group, const Plan &plan) {
+    return group.least_refusal <= plan.refusal && plan.refusal <= group.most_refusal && group.least_nodes <= plan.nodes &&
+           plan.nodes <= group.most_nodes;
+}
+
+void print_group(const Group &group, const std::vector<Row> &rows) {
+    std::vector<double> logs;
+    double proved = 0, cpp = 0;
+    for (const Row &row : rows) {
+        if (!belongs(group, row.plan)) continue;
+        logs.push_back(std::log(row.proved / row.cpp));
+        proved += row.proved;
+        cpp += row.cpp;
+    }
+    if (logs.empty()) return;
+    double sum = 0, squares = 0;
+    for (double log : logs) sum += log;
+    double mean = sum / double(logs.size());
+    for (double log : logs) squares += (log - mean) * (log - mean);
+    if (logs.size() == 1) {
+        std::printf("| %s | 1 | %.2f | | | %.2f |\n", group.name, std::exp(mean), proved / cpp);
+        return;
+    }
+    double deviation = std::sqrt(squares / double(logs.size() - 1));
+    auto [least, largest] = std::minmax_element(logs.begin(), logs.end());
+    std::printf("| %s | %zu | %.2f | %.2f | %.2f to %.2f | %.2f |\n", group.name, logs.size(), std::exp(mean), std::exp(deviation),
+                std::exp(*least), std::exp(*largest), proved / cpp);
+}
+
+} // namespace
+
+void print_summary(const std::vector<Row> &rows) {
+    std::printf("\nproved / C++, by groups\n\n");
+    std::printf("| sheets | number | geometric mean | geometric standard deviation | least to largest | sum of times, proved / C++ |\n");
+    std::printf("|---|---|---|---|---|---|\n");
+    for (const Group &group : groups) print_group(group, rows);
+}

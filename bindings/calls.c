@@ -1,0 +1,92 @@
+/* Calls each function of planner.h, as C99 and as C++: Bench, and refusals, with what each writes and what it leaves alone. */
+#include "planner.h"
+
+#include <stdio.h>
+#include <stdlib.h>
+
+#define EXPECT(holds)                                                                              \
+    do {                                                                                           \
+        if (!(holds)) {                                                                            \
+            fprintf(stderr, "FAILED %s:%d: %s\n", __FILE__, __LINE__, #holds);                     \
+            exit(1);                                                                               \
+        }                                                                                          \
+    } while (0)
+
+enum { LONGER = PLANNER_LEAST_ENTRIES + 100, MARK = 77 };
+
+/* One location, clock <= 2, rate 1; one edge, clock >= 1, reset, cost 5, reward 2. */
+static const uint8_t bench[18] = {1, 1, 1, 1, 5, 1, 0, 5, 15, 0, 0, 0, 5, 0, 2, 0, 1, 2};
+/* Bench without its edge: no cycle. */
+static const uint8_t no_edge[8] = {1, 1, 1, 0, 5, 1, 0, 5};
+
+static uint32_t nodes[LONGER];
+static int64_t potentials[LONGER];
+static uint16_t steps[LONGER];
+static int64_t p, q, n, s, m;
+
+/* Plans with a mark in every entry and every number. */
+static uint8_t plan(const uint8_t *sheet, size_t length, size_t entries) {
+    for (size_t i = 0; i < LONGER; i++) {
+        nodes[i] = MARK;
+        potentials[i] = MARK;
+        steps[i] = MARK;
+    }
+    p = q = n = s = m = MARK;
+    return planner_plan(sheet, length, nodes, entries, potentials, LONGER, steps, LONGER, &p, &q, &n, &s, &m);
+}
+
+/* Whether all three buffers hold the entry, but for so many at their front. */
+static int hold(uint32_t entry, size_t node_count, size_t step_count) {
+    for (size_t i = 0; i < LONGER; i++) {
+        if (i >= node_count && (nodes[i] != entry || potentials[i] != (int64_t)entry)) return 0;
+        if (i >= step_count && steps[i] != entry) return 0;
+    }
+    return 1;
+}
+
+static int all_zero(void) { return p == 0 && q == 0 && n == 0 && s == 0 && m == 0; }
+
+static void accepted(void) {
+    EXPECT(plan(bench, sizeof bench, LONGER) == 0);
+    EXPECT(p == 3 && q == 1 && n == 7 && s >= 0 && m >= 1 && s + m <= n);
+    EXPECT(hold(0, (size_t)n, (size_t)(s + m)));
+    for (int64_t i = 1; i < n; i++) EXPECT(nodes[i - 1] < nodes[i]);
+}
+
+/* The lasso of the plan before, walked by single steps. */
+static void walked(void) {
+    uint32_t node = 0, knot = 0;
+    int64_t costs = 0, rewards = 0;
+    for (int64_t i = 0; i < s + m; i++) {
+        int64_t cost = MARK, reward = MARK;
+        if (i == s) knot = node;
+        EXPECT(planner_step(bench, sizeof bench, node, steps[i], &node, &cost, &reward) == 0);
+        if (i >= s) {
+            costs += cost;
+            rewards += reward;
+        }
+    }
+    EXPECT(node == knot && q * costs == p * rewards && rewards > 0);
+}
+
+static void refused(void) {
+    uint32_t number = MARK;
+    int64_t cost = MARK, reward = MARK;
+    EXPECT(plan(bench, sizeof bench, PLANNER_LEAST_ENTRIES - 1) == 1 && all_zero() && hold(MARK, 0, 0));
+    EXPECT(plan(bench, sizeof bench - 1, LONGER) == 5 && all_zero() && hold(MARK, 0, 0));
+    EXPECT(plan(no_edge, sizeof no_edge, LONGER) == 13 && all_zero() && hold(0, 0, 0));
+    EXPECT(planner_check(bench, sizeof bench) == 0 && planner_check(bench, 0) == 2);
+    EXPECT(planner_step(bench, sizeof bench, 0, PLANNER_MOVE, &number, &cost, &reward) == 0);
+    EXPECT(number == 5 && cost == 0 && reward == 0);
+    cost = reward = MARK;
+    EXPECT(planner_step(bench, sizeof bench, 0, PLANNER_UNIT, &number, &cost, &reward) == 16);
+    EXPECT(number == 0 && cost == 0 && reward == 0);
+}
+
+int main(void) {
+    refused();
+    accepted();
+    walked();
+    printf("ratio %ld %ld\nnodes %ld\n", (long)p, (long)q, (long)n);
+    return 0;
+}

@@ -1,0 +1,75 @@
+//! The proved planner for double-priced timed sheets.
+//!
+//! A sheet is a small timed automaton written as bytes. [`check`] tells whether bytes are a sheet,
+//! [`step`] takes one step of it, and [`Planner::plan`] finds the least cost per reward that a
+//! repeating schedule can have, and a schedule that attains it.
+//!
+//! ```
+//! let bench = [1, 1, 1, 1, 5, 1, 0, 5, 15, 0, 0, 0, 5, 0, 2, 0, 1, 2];
+//! let mut planner = planner::Planner::new();
+//! let plan = planner.plan(&bench)?;
+//! assert_eq!((plan.p, plan.q, plan.nodes.len()), (3, 1, 7));
+//! # Ok::<(), planner::Refusal>(())
+//! ```
+//!
+//! The answers are those of the functions that `crates/exports` proves, in the static library that
+//! `rt staticlib exports` writes. The library allocates nothing and keeps no state; a plan takes up
+//! to 906 KB of the calling thread's stack (measured), and Rust's threads have 2 MB.
+#![deny(missing_docs)]
+#![deny(unsafe_code)]
+
+#[allow(unsafe_code)]
+mod exported;
+pub mod lent;
+mod plan;
+mod refusal;
+
+pub use plan::{Plan, Planner};
+pub use refusal::Refusal;
+
+/// The bytes of the longest sheet; a longer one is refused with 2.
+pub const LONGEST_SHEET: usize = 580;
+
+/// The entries that each buffer of a plan has at least; so many nodes are reachable at most.
+pub const LEAST_ENTRIES: usize = 2048;
+
+/// The code of one unit of delay. Codes 0 to 31 are the edges of the sheet.
+pub const UNIT: u16 = 32;
+
+/// The code of a region move.
+pub const MOVE: u16 = 33;
+
+/// What an allowed step leads to.
+#[derive(Clone, Copy, Debug, PartialEq, Eq)]
+pub struct Step {
+    /// The number of the node that the step leads to.
+    pub node: u32,
+    /// What the step costs.
+    pub cost: i64,
+    /// What the step earns.
+    pub reward: i64,
+}
+
+/// Checks a sheet: questions 2 to 11.
+///
+/// ```
+/// assert_eq!(planner::check(&[]).unwrap_err().number(), 2);
+/// ```
+pub fn check(sheet: &[u8]) -> Result<(), Refusal> {
+    Refusal::of(lent::check(sheet))
+}
+
+/// Takes a step from a node of a sheet, the start being node 0: questions 2 to 11, then 15 and 16.
+///
+/// ```
+/// let bench = [1, 1, 1, 1, 5, 1, 0, 5, 15, 0, 0, 0, 5, 0, 2, 0, 1, 2];
+/// let step = planner::step(&bench, 0, planner::MOVE)?;
+/// assert_eq!((step.cost, step.reward), (0, 0));
+/// assert_eq!(planner::step(&bench, 0, 0).unwrap_err().number(), 16);
+/// # Ok::<(), planner::Refusal>(())
+/// ```
+pub fn step(sheet: &[u8], node: u32, code: u16) -> Result<Step, Refusal> {
+    let mut numbers = lent::StepNumbers::default();
+    Refusal::of(lent::step(sheet, node, code, &mut numbers))?;
+    Ok(Step { node: numbers.number, cost: numbers.cost, reward: numbers.reward })
+}

@@ -1,0 +1,81 @@
+//! Bench, the sheet of eighteen bytes, and refusals, by every function.
+
+use planner::lent::{self, PlanNumbers, StepNumbers};
+use planner::{check, step, Planner, Step, LEAST_ENTRIES, LONGEST_SHEET, MOVE, UNIT};
+
+/// One location, clock ≤ 2, rate 1; one edge, clock ≥ 1, reset, cost 5, reward 2.
+const BENCH: [u8; 18] = [1, 1, 1, 1, 5, 1, 0, 5, 15, 0, 0, 0, 5, 0, 2, 0, 1, 2];
+
+/// Bench without its edge: no cycle.
+const NO_EDGE: [u8; 8] = [1, 1, 1, 0, 5, 1, 0, 5];
+
+#[test]
+fn bench_is_planned() {
+    let mut planner = Planner::new();
+    let plan = planner.plan(&BENCH).expect("Bench is accepted");
+    assert_eq!((plan.p, plan.q), (3, 1));
+    assert_eq!((plan.nodes.len(), plan.potentials.len()), (7, 7));
+    assert!(plan.nodes.windows(2).all(|pair| pair[0] < pair[1]));
+    assert!(!plan.cycle.is_empty() && plan.stem.len() + plan.cycle.len() <= 7);
+}
+
+#[test]
+fn the_lasso_is_walked_and_has_the_ratio() {
+    let mut planner = Planner::default();
+    let plan = planner.plan(&BENCH).expect("Bench is accepted");
+    let walk = |from: u32, codes: &[u16]| {
+        codes.iter().fold((from, 0, 0), |(node, cost, reward), &code| {
+            let next = step(&BENCH, node, code).expect("the lasso is a walk");
+            (next.node, cost + next.cost, reward + next.reward)
+        })
+    };
+    let (knot, ..) = walk(0, plan.stem);
+    let (end, cost, reward) = walk(knot, plan.cycle);
+    assert_eq!(end, knot);
+    assert_eq!(cost * plan.q, reward * plan.p);
+    assert!(plan.cycle.contains(&UNIT));
+}
+
+#[test]
+fn a_planner_goes_on_after_a_refusal() {
+    let mut planner = Planner::new();
+    assert_eq!(planner.plan(&NO_EDGE).expect_err("no cycle").number(), 13);
+    assert_eq!(planner.plan(&[0; LONGEST_SHEET + 1]).expect_err("too long").number(), 2);
+    assert_eq!(planner.plan(&BENCH).map(|plan| plan.p), Ok(3));
+}
+
+#[test]
+fn checks_and_steps() {
+    assert_eq!(check(&BENCH), Ok(()));
+    assert_eq!(check(&BENCH[..17]).expect_err("a byte less").number(), 5);
+    assert_eq!(step(&BENCH, 0, MOVE), Ok(Step { node: 5, cost: 0, reward: 0 }));
+    assert_eq!(step(&BENCH, 0, UNIT).expect_err("a clock has no fraction").number(), 16);
+    assert_eq!(step(&BENCH, u32::MAX, MOVE).expect_err("no node").number(), 15);
+    assert_eq!(step(&[], 0, MOVE).expect_err("no sheet").number(), 2);
+}
+
+#[test]
+fn a_refusal_says_its_question() {
+    let refusal = check(&BENCH[..17]).expect_err("a byte less");
+    assert_eq!(refusal.to_string(), "refused 5: Are the bytes of each record there?");
+    let error: Box<dyn std::error::Error> = refusal.into();
+    assert!(error.source().is_none());
+}
+
+#[test]
+fn every_number_is_written_by_a_refused_call() {
+    let mut numbers = StepNumbers { number: 7, cost: 7, reward: 7 };
+    assert_eq!(lent::step(&BENCH, 0, 34, &mut numbers), 16);
+    assert_eq!(numbers, StepNumbers::default());
+    for (sheet, refusal) in [(&BENCH[..17], 5), (&NO_EDGE[..], 13)] {
+        let mut numbers = PlanNumbers { p: 7, q: 7, n: 7, s: 7, m: 7 };
+        let (mut nodes, mut potentials) = ([7; LEAST_ENTRIES], [7; LEAST_ENTRIES + 1]);
+        let mut steps = [7; LEAST_ENTRIES];
+        let answer = lent::plan(sheet, &mut nodes, &mut potentials, &mut steps, &mut numbers);
+        assert_eq!((answer, numbers), (refusal, PlanNumbers::default()));
+        let entry = if refusal < 12 { 7 } else { 0 };
+        assert_eq!(nodes, [entry as u32; LEAST_ENTRIES]);
+        assert_eq!(potentials, [i64::from(entry); LEAST_ENTRIES + 1]);
+        assert_eq!(steps, [entry as u16; LEAST_ENTRIES]);
+    }
+}
