@@ -3,8 +3,9 @@
  *
  * A sheet is a small timed automaton written as bytes. planner_check tells whether bytes are a
  * sheet, planner_step takes one step of it, planner_plan finds the least cost per reward that a
- * repeating schedule can have, and a schedule that attains it. The functions are those of
- * crates/exports/src/lib.rt, whose contracts are proved; this file only declares them.
+ * repeating schedule can come to, and a lasso of corner points whose cycle has it. docs/SHEET.md
+ * says what these are. The functions are those of crates/exports/src/lib.rt, whose contracts are
+ * proved; this file only declares them.
  *
  * LINKING
  *   `rt staticlib exports` proves the planner and writes target/staticlib/libexports.a, for

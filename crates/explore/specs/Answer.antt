@@ -1,4 +1,4 @@
--- What `explore` answers: this paper's number, and what stands in the buffers. As the call finds them they are `before`, and as it leaves them
+-- What `explore` answers: 01's number, and what stands in the buffers. As the call finds them they are `before`, and as it leaves them
 -- `after`.
 use mathlib.Core.Path.{_≡_}
 use mathlib.Core.Option.{Option, none, some}
@@ -16,7 +16,7 @@ use Rattle.explore.specs.Index.{Index}
 use Rattle.explore.specs.declared.Outcome.{Outcome}
 use Rattle.explore.specs.declared.Outcome.the-variants.{Malformed, TooMany, Graph}
 
--- the number of each outcome: that of question 12, or 0. A call that is not explorable has no number of this paper's, and no plan gets it.
+-- the number of each outcome: that of question 12, or 0. A call that is not explorable has no number of 01's, and no plan gets it.
 abbrev pub outcomeNumber : Outcome → Option ℕ
 outcomeNumber Malformed = none
 outcomeNumber TooMany = some 12
@@ -104,15 +104,15 @@ module _ (step : ℕ → ℕ → Option (Priced ℕ)) (start : ℕ) where
 
 module _ (s : Sheet) where
   -- the number that the call is to be answered with
-  abbrev pub Numbered : GraphBuffers → Option ℕ → Type 0
-  Numbered before none = ¬ Explorable s before
-  Numbered before (some number) = Explorable s before × QuestionTwelve (stepRead s) (startRead s) number
+  abbrev pub ExploreNumbered : GraphBuffers → Option ℕ → Type 0
+  ExploreNumbered before none = ¬ Explorable s before
+  ExploreNumbered before (some number) = Explorable s before × QuestionTwelve (stepRead s) (startRead s) number
 
   -- what stands in the buffers
-  abbrev pub Left : GraphBuffers → GraphBuffers → Outcome → Type 0
-  Left before after Malformed = after ≡ before
-  Left before after TooMany = Stopped (stepRead s) (startRead s) before after
-  Left before after (Graph n m) = Explored (stepRead s) (startRead s) (found after n m) × Filled before after n m
+  abbrev pub ExploreLeft : GraphBuffers → GraphBuffers → Outcome → Type 0
+  ExploreLeft before after Malformed = after ≡ before
+  ExploreLeft before after TooMany = Stopped (stepRead s) (startRead s) before after
+  ExploreLeft before after (Graph n m) = Explored (stepRead s) (startRead s) (found after n m) × Filled before after n m
 
   abbrev pub ExploreAnswered : GraphBuffers → GraphBuffers → Outcome → Type 0
-  ExploreAnswered before after r = Numbered before (outcomeNumber r) × Left before after r
+  ExploreAnswered before after r = ExploreNumbered before (outcomeNumber r) × ExploreLeft before after r
