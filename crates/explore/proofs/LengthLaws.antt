@@ -22,7 +22,7 @@ each-is : (least a b c d : ℕ) → least ≤ a → least ≤ b → least ≤ c 
 each-is least a b c d p q r s = simp (le-leb least a p, le-leb least b q, le-leb least c r, le-leb least d s)
 
 -- the whole test
-abbrev pub fits : GraphBuffers → Bool
+abbrev fits : GraphBuffers → Bool
 fits b = eachAtLeast 2048 (length (b .node)) (length (b .sorted)) (length (b .order)) (length (b .tree))
     && (eachAtLeast 69632 (length (b .from)) (length (b .to)) (length (b .code)) (length (b .cost)) && leb 69632 (length (b .reward)))
 

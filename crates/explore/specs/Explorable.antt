@@ -4,13 +4,13 @@ use Prim.Native.Nat.{ℕ, _≤_}
 use Rattle.sheet.specs.declared.Sheet.{Sheet}
 use Rattle.explore.specs.Buffers.{GraphBuffers, HasRoom}
 
--- a sheet that was not refused, with "locations L (1 to 12), clocks K (1 to 3), edges E (0 to 32)"
-pub record IsSheet (refusal locations clocks edges : ℕ) : Type 0 where
-  pub passed : refusal ≡ 0
+-- "locations L (1 to 12), clocks K (1 to 3), edges E (0 to 32)"
+pub record CountsInRange (locations clocks edges : ℕ) : Type 0 where
   pub locations-in : (1 ≤ locations) × (locations ≤ 12)
   pub clocks-in : (1 ≤ clocks) × (clocks ≤ 3)
   pub edges-in : edges ≤ 32
 
 pub record Explorable (s : Sheet) (b : GraphBuffers) : Type 0 where
-  pub sheet : IsSheet (s .refusal) (s .locations) (s .clocks) (s .edges)
+  pub not-refused : s .refusal ≡ 0
+  pub counts : CountsInRange (s .locations) (s .clocks) (s .edges)
   pub room : HasRoom b

@@ -3,7 +3,7 @@ ghost use mathlib.Core.Path.{_≡_};
 ghost use mathlib.Core.Bool.{true, false, _&&_};
 ghost use lib.Dec.{leb};
 ghost use Rattle.explore.specs.Buffers.{graphBuffers, eachAtLeast};
-ghost use Rattle.explore.specs.Explorable.{IsSheet};
+ghost use Rattle.explore.specs.Explorable.{CountsInRange};
 ghost use Rattle.explore.specs.Answer.{ExploreAnswered};
 use sheet::Sheet;
 
@@ -20,13 +20,10 @@ pub enum Outcome {
     Graph(usize, usize),
 }
 
-// Whether a sheet was not refused and has its counts in range.
-fn is_sheet(refusal: u8, locations: u8, clocks: u8, edges: u8) -> bool
-    ensures { λ r. ⌜ (r ≡ true → IsSheet refusal locations clocks edges) ⌝ ∗ ⌜ (r ≡ false → IsSheet refusal locations clocks edges → ⊥) ⌝ }
+// Whether so many locations, clocks and edges are in range.
+fn counts_in_range(locations: u8, clocks: u8, edges: u8) -> bool
+    ensures { λ r. ⌜ (r ≡ true → CountsInRange locations clocks edges) ⌝ ∗ ⌜ (r ≡ false → CountsInRange locations clocks edges → ⊥) ⌝ }
 {
-    if refusal != 0 {
-        return false;
-    }
     if locations < 1 {
         return false;
     }
@@ -99,7 +96,10 @@ pub fn explore(
         (graphBuffers (now (nodes .exit)) (now (sorted .exit)) (now (order .exit)) (now (tree .exit))
         (now (from .exit)) (now (to .exit)) (now (code .exit)) (now (cost .exit)) (now (reward .exit))) r ⌝ }
 {
-    if !is_sheet(sheet.refusal, sheet.locations, sheet.clocks, sheet.edges) {
+    if 0 < sheet.refusal {
+        return Outcome::Malformed;
+    }
+    if !counts_in_range(sheet.locations, sheet.clocks, sheet.edges) {
         return Outcome::Malformed;
     }
     if !long_enough(

@@ -18,7 +18,7 @@ use Rattle.contract.specs.Explored.{Explored, Overfull, stepRead, startRead, So
 use Rattle.contract.proofs.Graphs.{Room, cut, explored-cut, graph}
 use Rattle.contract.proofs.DecodedSheets.{explored-read, overfull-read}
 use Rattle.explore.specs.Buffers.{GraphBuffers, graphBuffers, found, HasRoom}
-use Rattle.explore.specs.Explorable.{IsSheet}
+use Rattle.explore.specs.Explorable.{Explorable}
 use Rattle.explore.specs.Answer.{Filled, ExploreAnswered}
 use Rattle.explore.specs.declared.Outcome.{Outcome}
 use Rattle.explore.specs.declared.Outcome.the-variants.{Malformed, TooMany, Graph}
@@ -42,19 +42,19 @@ fresh-long N h = record {
   reward = room {A = ℕ} 69632 0 (omega arith);
 }
 
--- a sheet that was read from checked bytes
-is-sheet : (read : Sheet) → ReadFrom read → IsSheet (read .refusal) (read .locations) (read .clocks) (read .edges)
-is-sheet read o =
+-- a sheet that was read from checked bytes can be explored
+explorable : (read : Sheet) (b : GraphBuffers) → ReadFrom read → HasRoom b → Explorable read b
+explorable read b o room =
     let head = header (o .bytes) (o .checked) in
-    subst (λ (s : Sheet). IsSheet (s .refusal) (s .locations) (s .clocks) (s .edges)) (sym (o .is ∙ read-passed (o .bytes) (o .checked)))
-    (record { passed = refl; locations-in = head .locations; clocks-in = head .clocks; edges-in = head .edges })
+    subst (λ (s : Sheet). Explorable s b) (sym (o .is ∙ read-passed (o .bytes) (o .checked)))
+    (record { not-refused = refl; counts = record { locations-in = head .locations; clocks-in = head .clocks; edges-in = head .edges }; room = room })
 
 module _ (read : Sheet) (N : List ℕ) (b : GraphBuffers) (A : Outcome) (z : ExploreAnswered read (fresh N) b A) where
   abbrev Is : Outcome → Type 0
   Is = ExploreAnswered read (fresh N) b
 
   pub never : A ≡ Malformed → ReadFrom read → 2048 ≤ length N → ⊥
-  never e o h = subst Is e z .0 (record { sheet = is-sheet read o; room = fresh-long N h })
+  never e o h = subst Is e z .0 (explorable read (fresh N) o (fresh-long N h))
 
   pub overfull : A ≡ TooMany → (o : ReadFrom read) → Overfull (stepOn (o .bytes)) (startOf (o .bytes)) (b .node)
   overfull e o = overfull-read (o .bytes) (o .checked)

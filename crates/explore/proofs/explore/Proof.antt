@@ -1,10 +1,10 @@
 -- The sheet and the lengths are tested, and the search is called.
-use mathlib.Core.Bool.{true}
-use mathlib.Core.Path.{_≡_, refl, sym, _∙_}
+use mathlib.Core.Path.{refl, sym, _∙_}
 use denote.Ref.{now}
+use native.Mathlib.Omega.{arith}
 use borrow.Author.Tests.{not-true, not-false}
 use Rattle.explore.specs.Buffers.{GraphBuffers, graphBuffers}
-use Rattle.explore.proofs.LengthLaws.{fits, long-of, not-long}
+use Rattle.explore.proofs.LengthLaws.{long-of, not-long}
 use Rattle.explore.proofs.explore.Statement.{statement}
 use Rattle.explore.proofs.explore.Tie as tie
 
@@ -15,34 +15,41 @@ entry s =
     (now (s .args .code)) (now (s .args .cost)) (now (s .args .reward))
 
 -- the start
-abbrev S : tie.After-is-sheet → tie.Start
+abbrev S : tie.After-struct-known → tie.Start
 S c = c .before .before .before .before .before .before .before .before .before
 
 -- after the search
 abbrev C : tie.After-slice-known16 → tie.After-search
 C c = c .before .before .before .before .before .before .before .before .before .before .before .before .before .before .before .before .before
 
-is-sheet-requires : tie.Need-is-sheet-requires
-is-sheet-requires c κs = tt
-
 returns : tie.Need-returns
-returns c = ((λ w. c .before .is-sheet .ensures .1 (not-true (c .before .is-sheet .result) (c .if1 .taken)) (w .sheet)), refl)
+returns c = ((λ w. omega (arith, c .if1 .taken, w .not-refused)), refl)
+
+counts-in-range-requires : tie.Need-counts-in-range-requires
+counts-in-range-requires c κs = tt
+
+returns-2 : tie.Need-returns-2
+returns-2 c =
+    let test = c .before .counts-in-range in
+    ((λ w. test .ensures .1 (not-true (test .result) (c .if2 .taken)) (w .counts)), refl)
 
 long-enough-requires : tie.Need-long-enough-requires
 long-enough-requires c κs = tt
 
-returns-2 : tie.Need-returns-2
-returns-2 c =
+returns-3 : tie.Need-returns-3
+returns-3 c =
     let test = c .before .long-enough in
-    ((λ w. not-long (entry (S (c .before .before .before))) (sym (test .ensures) ∙ not-true (test .result) (c .if2 .taken)) (w .room)), refl)
+    ((λ w. not-long (entry (S (c .before .before .before .before .before))) (sym (test .ensures) ∙ not-true (test .result) (c .if3 .taken)) (w .room)), refl)
 
 search-requires : tie.Need-search-requires
 search-requires c κs =
-    let e = c .before .before .before .before .before .before .before .before .before in
-    let a = e .before .before in
+    let long = c .before .before .before .before .before .before .before .before .before in
+    let counts = long .before .before in
+    let first = counts .before .before in
     record {
-      sheet = a .before .is-sheet .ensures .0 (not-false (a .before .is-sheet .result) (a .if1 .left));
-      room = long-of (entry (S (a .before))) (sym (e .before .long-enough .ensures) ∙ not-false (e .before .long-enough .result) (e .if2 .left));
+      not-refused = omega (arith, first .if1 .left);
+      counts = counts .before .counts-in-range .ensures .0 (not-false (counts .before .counts-in-range .result) (counts .if2 .left));
+      room = long-of (entry (S (first .before))) (sym (long .before .long-enough .ensures) ∙ not-false (long .before .long-enough .result) (long .if3 .left));
     }
 
 same-length : tie.Need-same-length
@@ -72,17 +79,18 @@ same-length-8 c = C c .search .kept .1 .1 .1 .1 .1 .1 .1 .1 .0
 same-length-9 : tie.Need-same-length-9
 same-length-9 c = C c .search .kept .1 .1 .1 .1 .1 .1 .1 .1 .1 .0
 
-returns-3 : tie.Need-returns-3
-returns-3 c = C c .search .ensures
+returns-4 : tie.Need-returns-4
+returns-4 c = C c .search .ensures
 
 pub explore-spec : {M : Type 1} → statement M
 explore-spec =
     tie.close
     (tie.spec
-    is-sheet-requires
     returns
-    long-enough-requires
+    counts-in-range-requires
     returns-2
+    long-enough-requires
+    returns-3
     search-requires
     same-length
     same-length-2
@@ -93,4 +101,4 @@ explore-spec =
     same-length-7
     same-length-8
     same-length-9
-    returns-3)
+    returns-4)
