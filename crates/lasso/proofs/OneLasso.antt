@@ -13,17 +13,17 @@ use Rattle.lasso.specs.declared.Answer.{Answer}
 use Rattle.lasso.specs.declared.Answer.the-variants.{Malformed, Laid}
 
 -- a list is empty, or has a last entry
-data Ended (l : List ℕ) : Type 0 where
-  empty : l ≡ [] → Ended l
-  ended : (p : List ℕ) (e : ℕ) → l ≡ p ++ (e ∷ []) → Ended l
+data EmptyOrLast (l : List ℕ) : Type 0 where
+  is-empty : l ≡ [] → EmptyOrLast l
+  has-last : (p : List ℕ) (e : ℕ) → l ≡ p ++ (e ∷ []) → EmptyOrLast l
 
-ended-more : (x : ℕ) (l : List ℕ) → Ended l → Ended (x ∷ l)
-ended-more x l (empty q) = ended [] x (ap (λ (r : List ℕ). x ∷ r) q)
-ended-more x l (ended p e q) = ended (x ∷ p) e (ap (λ (r : List ℕ). x ∷ r) q)
+last-more : (x : ℕ) (l : List ℕ) → EmptyOrLast l → EmptyOrLast (x ∷ l)
+last-more x l (is-empty q) = has-last [] x (ap (λ (r : List ℕ). x ∷ r) q)
+last-more x l (has-last p e q) = has-last (x ∷ p) e (ap (λ (r : List ℕ). x ∷ r) q)
 
-ending : (l : List ℕ) → Ended l
-ending [] = empty refl
-ending (x ∷ l) = ended-more x l (ending l)
+empty-or-last : (l : List ℕ) → EmptyOrLast l
+empty-or-last [] = is-empty refl
+empty-or-last (x ∷ l) = last-more x l (empty-or-last l)
 
 module _ (F T tree : List ℕ) (m : ℕ) where
   -- a walk along the tree
@@ -33,21 +33,21 @@ module _ (F T tree : List ℕ) (m : ℕ) where
     along : AlongTree T tree l
 
   -- one with a last arc e
-  record Taken (x : ℕ) (p : List ℕ) (e h : ℕ) : Type 0 where
+  record LastArc (x : ℕ) (p : List ℕ) (e h : ℕ) : Type 0 where
     before : Branch x p (at F e)
     leads : at T e ≡ h
     rises : at F e < at T e
     in-tree : at tree (at T e) ≡ e
 
-  taken : (x : ℕ) (p : List ℕ) (e h : ℕ) → Branch x (p ++ (e ∷ [])) h → Taken x p e h
-  taken x [] e h b = record {
+  last-arc : (x : ℕ) (p : List ℕ) (e h : ℕ) → Branch x (p ++ (e ∷ [])) h → LastArc x p e h
+  last-arc x [] e h b = record {
     before = record { walk = sym (b .walk .1); rising = tt; along = tt };
     leads = b .walk .2;
     rises = b .rising .0;
     in-tree = b .along .0;
   }
-  taken x (a ∷ p) e h b =
-      let i = taken (at T a) p e h (record { walk = b .walk .2; rising = b .rising .1; along = b .along .1 }) in
+  last-arc x (a ∷ p) e h b =
+      let i = last-arc (at T a) p e h (record { walk = b .walk .2; rising = b .rising .1; along = b .along .1 }) in
       record {
         before = record { walk = (b .walk .0, b .walk .1, i .before .walk); rising = (b .rising .0, i .before .rising); along = (b .along .0, i .before .along) };
         leads = i .leads;
@@ -58,26 +58,26 @@ module _ (F T tree : List ℕ) (m : ℕ) where
   -- none comes back to node 0
   not-back : (l p : List ℕ) (e h : ℕ) → l ≡ [] → Branch 0 l h → Branch 0 (p ++ (e ∷ [])) h → ⊥
   not-back l p e h q b c =
-      let t = taken 0 p e h c in
+      let t = last-arc 0 p e h c in
       let z : 0 ≡ h = subst (λ (r : List ℕ). ArcWalk F T m 0 r h) q (b .walk) in
       omega (arith, t .rises, t .leads, z)
 
   -- the last arcs of two are the tree's arc of one node, and so on back to node 0
   same-branch : (h : ℕ) → ((g : ℕ) → g < h → (l r : List ℕ) → Branch 0 l g → Branch 0 r g → l ≡ r)
-      → (l r : List ℕ) → Ended l → Ended r → Branch 0 l h → Branch 0 r h → l ≡ r
-  same-branch h before l r (empty q) (empty s) b c = q ∙ sym s
-  same-branch h before l r (empty q) (ended p e s) b c = absurd (not-back l p e h q b (subst (λ (x : List ℕ). Branch 0 x h) s c))
-  same-branch h before l r (ended p e q) (empty s) b c = absurd (not-back r p e h s c (subst (λ (x : List ℕ). Branch 0 x h) q b))
-  same-branch h before l r (ended p e q) (ended o f s) b c =
-      let t = taken 0 p e h (subst (λ (x : List ℕ). Branch 0 x h) q b) in
-      let u = taken 0 o f h (subst (λ (x : List ℕ). Branch 0 x h) s c) in
+      → (l r : List ℕ) → EmptyOrLast l → EmptyOrLast r → Branch 0 l h → Branch 0 r h → l ≡ r
+  same-branch h before l r (is-empty q) (is-empty s) b c = q ∙ sym s
+  same-branch h before l r (is-empty q) (has-last p e s) b c = absurd (not-back l p e h q b (subst (λ (x : List ℕ). Branch 0 x h) s c))
+  same-branch h before l r (has-last p e q) (is-empty s) b c = absurd (not-back r p e h s c (subst (λ (x : List ℕ). Branch 0 x h) q b))
+  same-branch h before l r (has-last p e q) (has-last o f s) b c =
+      let t = last-arc 0 p e h (subst (λ (x : List ℕ). Branch 0 x h) q b) in
+      let u = last-arc 0 o f h (subst (λ (x : List ℕ). Branch 0 x h) s c) in
       let same : e ≡ f = sym (t .in-tree) ∙ ap (at tree) (t .leads ∙ sym (u .leads)) ∙ u .in-tree in
       let rest : p ≡ o = before (at F e) (omega (arith, t .rises, t .leads)) p o (t .before) (subst (λ (x : ℕ). Branch 0 o (at F x)) (sym same) (u .before)) in
       q ∙ ap₂ (λ (x : List ℕ) (y : ℕ). x ++ (y ∷ [])) rest same ∙ sym s
 
   one-branch : (turns h : ℕ) → h < turns → (l r : List ℕ) → Branch 0 l h → Branch 0 r h → l ≡ r
   one-branch zero h k l r b c = absurd (omega arith)
-  one-branch (suc turns) h k l r b c = same-branch h (λ g j. one-branch turns g (omega arith)) l r (ending l) (ending r) b c
+  one-branch (suc turns) h k l r b c = same-branch h (λ g j. one-branch turns g (omega arith)) l r (empty-or-last l) (empty-or-last r) b c
 
 module _ {F T tree cycle : List ℕ} {n k s : ℕ} {arcs arcs' : List ℕ} (hk : k ≤ length cycle) (l : LaidOut F T tree cycle n k s arcs arcs') where
   branch : Branch F T tree (length F) 0 (take s arcs') (at F (at cycle (l .turn)))
@@ -91,8 +91,8 @@ module _ {F T tree cycle : List ℕ} {n k s : ℕ} {arcs arcs' : List ℕ} (hk :
   stem-sized = length-take-le s arcs' (omega (arith, turned-sized, length-drop s (take (s + k) arcs'), length-take (s + k) arcs', l .below))
 
   -- stem, turned cycle, and what stood behind them
-  whole : arcs' ≡ (take s arcs' ++ (slice (l .turn) k cycle ++ take (l .turn) cycle)) ++ drop (s + k) arcs
-  whole = sym (take-append-drop (s + k) arcs')
+  in-parts : arcs' ≡ (take s arcs' ++ (slice (l .turn) k cycle ++ take (l .turn) cycle)) ++ drop (s + k) arcs
+  in-parts = sym (take-append-drop (s + k) arcs')
       ∙ ap₂ _++_ (slice-join 0 s (s + k) arcs' (omega arith) (omega arith) ∙ ap (λ (r : List ℕ). take s arcs' ++ r) (l .turned)) (l .rest)
 
 module _ {F T tree cycle : List ℕ} {n k : ℕ} {arcs : List ℕ} (hk : k ≤ length cycle) where
@@ -102,8 +102,8 @@ module _ {F T tree cycle : List ℕ} {n k : ℕ} {arcs : List ℕ} (hk : k ≤ l
   pub one-lasso : {s t : ℕ} {x y : List ℕ} → LaidOut F T tree cycle n k s arcs x → LaidOut F T tree cycle n k t arcs y → (s ≡ t) × (x ≡ y)
   one-lasso {s} {t} {x} {y} l o = (
     long,
-    whole hk l ∙ ap₂ (λ (r : List ℕ) (i : ℕ). (r ++ (slice i k cycle ++ take i cycle)) ++ drop (s + k) arcs) stems turns
-        ∙ ap (λ (i : ℕ). (take t y ++ (slice (o .turn) k cycle ++ take (o .turn) cycle)) ++ drop (i + k) arcs) long ∙ sym (whole hk o),
+    in-parts hk l ∙ ap₂ (λ (r : List ℕ) (i : ℕ). (r ++ (slice i k cycle ++ take i cycle)) ++ drop (s + k) arcs) stems turns
+        ∙ ap (λ (i : ℕ). (take t y ++ (slice (o .turn) k cycle ++ take (o .turn) cycle)) ++ drop (i + k) arcs) long ∙ sym (in-parts hk o),
   )
     where
       turns : l .turn ≡ o .turn

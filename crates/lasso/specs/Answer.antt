@@ -50,6 +50,7 @@ pub record LaidOut (F T tree cycle : List ℕ) (n k s : ℕ) (arcs arcs' : List 
   pub turned : slice s (s + k) arcs' ≡ slice turn k cycle ++ take turn cycle
   pub rest : drop (s + k) arcs' ≡ drop (s + k) arcs
 
+-- Questions are not asked here, so neither answer has a number of 01's: no plan gets `Malformed`, and the s of `Laid` is the plan's s.
 abbrev pub LassoAnswered : List ℕ → List ℕ → List ℕ → List ℕ → ℕ → ℕ → List ℕ → List ℕ → Answer → Type 0
 LassoAnswered F T tree cycle n k arcs arcs' Malformed = (LassoArguments F T tree cycle n k (length arcs) → ⊥) × (arcs' ≡ arcs)
 LassoAnswered F T tree cycle n k arcs arcs' (Laid s) = LassoArguments F T tree cycle n k (length arcs) × LaidOut F T tree cycle n k s arcs arcs'

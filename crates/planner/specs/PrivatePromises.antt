@@ -21,6 +21,7 @@ use Rattle.contract.specs.Explored.{Found, Explored, Sorted}
 abbrev pub cleared : {A : Type 0} → A → List A → ℕ → List A
 cleared zero l a = take a l ++ replicate (length l - a) zero
 
+-- l' is l with zeros from the place a on
 pub record Cleared {A : Type 0} (zero : A) (a : ℕ) (l l' : List A) : Type 0 where
   pub room : a ≤ length l
   pub is : l' ≡ cleared zero l a

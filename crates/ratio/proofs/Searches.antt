@@ -1,8 +1,8 @@
 -- What the answers of the searches for questions 13 and 14 say.
 use mathlib.Core.Path.{_≡_, ap}
 use mathlib.Core.List.{List}
-use Prim.Native.Nat.{ℕ, _+_, _*_, _≤_}
-use native.Mathlib.Nat.{mul-one, zero-mul, mul-zero}
+use Prim.Native.Nat.{ℕ, _+_, _*_, _≤_, _<_}
+use native.Mathlib.Nat.{mul-one, zero-mul, mul-zero, mul-le-mul}
 use native.Mathlib.Omega.{arith}
 use lib.ListN.{length}
 use lib.IntN.{ℤ, pos, negsuc, _+ℤ_, _*ℤ_}
@@ -39,6 +39,12 @@ counted b cost reward c = omega (
   mul-one (length c),
 )
 
+not-zero : (n : ℕ) → (n ≡ 0 → ⊥) → 0 < n
+not-zero n h = omega arith
+
+is-zero : (n : ℕ) → (1 ≤ n → ⊥) → n ≡ 0
+is-zero n h = omega arith
+
 module _ (F T : List ℕ) (m : ℕ) (cost : List ℤ) (reward : List ℕ) where
   -- at (0, 0, -1) each cycle is negative
   pub acyclic : NoneNegative F T m (weightOf (pos 0) (pos 0) (negsuc 0) cost reward) → Acyclic F T m
@@ -50,19 +56,27 @@ module _ (F T : List ℕ) (m : ℕ) (cost : List ℤ) (reward : List ℕ) where
     le-parts (pos 0) (sum (weightOf (pos 0) (pos 0) (negsuc 0) cost reward) c) (h x c r k),
   )
 
-  -- at (0, 2049, -1) a cycle that earns nothing is negative
-  pub each-earns : NoneNegative F T m (weightOf (pos 0) (pos 2049) (negsuc 0) cost reward) → EachEarns F T m reward
-  each-earns h x c r k = omega (
+  -- at (0, b, -1) a cycle that earns nothing is negative
+  pub each-earns : (b : ℕ) → NoneNegative F T m (weightOf (pos 0) (pos b) (negsuc 0) cost reward) → EachEarns F T m reward
+  each-earns b h x c r k = not-zero (total (at reward) c) (λ e. omega (
     arith,
-    counted 2049 cost reward c,
+    counted b cost reward c,
+    ap (λ (t : ℕ). b * t) e,
+    mul-zero b,
     k .some,
-    le-parts (pos 0) (sum (weightOf (pos 0) (pos 2049) (negsuc 0) cost reward) c) (h x c r k),
-  )
+    le-parts (pos 0) (sum (weightOf (pos 0) (pos b) (negsuc 0) cost reward) c) (h x c r k),
+  ))
 
-  -- and a negative cycle of at most 2,048 arcs earns nothing
-  pub idle : (c : List ℕ) → length c ≤ 2048 → NegativeCycle F T m (weightOf (pos 0) (pos 2049) (negsuc 0) cost reward) c → Idle F T m reward
-  idle c l g = record {
+  -- and a negative cycle of fewer than b arcs earns nothing
+  pub idle : (b : ℕ) (c : List ℕ) → length c < b → NegativeCycle F T m (weightOf (pos 0) (pos b) (negsuc 0) cost reward) c → Idle F T m reward
+  idle b c l g = record {
     arcs = c;
-    cycle = simple-of F T m (weightOf (pos 0) (pos 2049) (negsuc 0) cost reward) c g;
-    no-reward = omega (arith, counted 2049 cost reward c, lt-parts (sum (weightOf (pos 0) (pos 2049) (negsuc 0) cost reward) c) (pos 0) (g .negative));
+    cycle = simple-of F T m (weightOf (pos 0) (pos b) (negsuc 0) cost reward) c g;
+    no-reward = is-zero (total (at reward) c) (λ h. let r : b ≤ b = omega arith in omega (
+      arith,
+      counted b cost reward c,
+      mul-le-mul r h,
+      mul-one b,
+      lt-parts (sum (weightOf (pos 0) (pos b) (negsuc 0) cost reward) c) (pos 0) (g .negative),
+    ));
   }

@@ -106,14 +106,6 @@ module _ {F T : List ℕ} {cost : List ℤ} {reward : List ℕ} {n a b : ℕ} (r
       (hand-reward g h') (hand-reward g h)
       (hand-cost g h') (hand-cost g h) less
 
--- the search at the numbers that the code has
-pub coded : (F T : List ℕ) (cost : List ℤ) (reward : List ℕ) (p : ℤ) (q n : ℕ) (potential potential' : List ℤ) (hand hand' : List ℕ) (A : Answer) {a b : ℤ}
-    → a ≡ pos q → b ≡ negℤ p → Search.SearchAnswered F T cost reward a b (pos 0) n potential potential' hand hand' A
-    → Search.SearchAnswered F T cost reward (pos q) (negℤ p) (pos 0) n potential potential' hand hand' A
-coded F T cost reward p q n potential potential' hand hand' A {a} {b} ea eb z =
-    subst (λ (y : ℤ). Search.SearchAnswered F T cost reward (pos q) y (pos 0) n potential potential' hand hand' A) eb
-    (subst (λ (x : ℤ). Search.SearchAnswered F T cost reward x b (pos 0) n potential potential' hand hand' A) ea z)
-
 -- what is read back of the numerator
 pub again-settled : {F T : List ℕ} {cost : List ℤ} {reward : List ℕ} {n : ℕ} {potential potential' : List ℤ} {hand : List ℕ} {p : ℤ} {q k : ℕ} → SFits w64 p
     → LeastInHand F T cost reward n potential potential' hand p q k → LeastInHand F T cost reward n potential potential' hand (toZ w64 (ofZ w64 p)) q k

@@ -1,7 +1,7 @@
 -- The searches for questions 13 and 14 by their answers, the copy of the cycle, and what the verdict's number says.
-use mathlib.Core.Path.{_≡_, ap, subst, _∙_}
+use mathlib.Core.Path.{_≡_, sym, ap, subst, _∙_}
 use mathlib.Core.List.{List, _++_}
-use Prim.Native.Nat.{ℕ, _≤_}
+use Prim.Native.Nat.{ℕ, _≤_, _<_}
 use native.Mathlib.Omega.{arith}
 use lib.ListN.{length, take, drop, replicate, length-take, length-replicate}
 use lib.IntN.{ℤ, pos, negsuc}
@@ -20,8 +20,14 @@ use Rattle.walks.specs.Weight.{weightOf}
 pub room : {A : Type 0} {n : ℕ} (k : ℕ) (x : A) → n ≤ k → n ≤ length (replicate k x)
 room k x h = omega (arith, length-replicate k x)
 
+-- the search at the coefficients that the code has
+pub coded : (F T : List ℕ) (cost : List ℤ) (reward : List ℕ) (a b c : ℤ) (n : ℕ) (potential potential' : List ℤ) (arcs arcs' : List ℕ) (A : Answer) {x y z : ℤ}
+    → Search.SearchAnswered F T cost reward x y z n potential potential' arcs arcs' A → x ≡ a → y ≡ b → z ≡ c
+    → Search.SearchAnswered F T cost reward a b c n potential potential' arcs arcs' A
+coded F T cost reward a b c n potential potential' arcs arcs' A s ea eb ec = rw (sym ea, sym eb, sym ec) s
+
 -- the search at (0, b, -1)
-module _ (F T : List ℕ) (cost : List ℤ) (reward : List ℕ) (n b : ℕ) (hb : b ≤ 2049) (potential potential' : List ℤ) (arcs arcs' : List ℕ)
+module _ (F T : List ℕ) (cost : List ℤ) (reward : List ℕ) (n b : ℕ) (hb : b ≤ 20480001) (potential potential' : List ℤ) (arcs arcs' : List ℕ)
     (A : Answer) (z : Search.SearchAnswered F T cost reward (pos 0) (pos b) (negsuc 0) n potential potential' arcs arcs' A) where
   abbrev Is : Answer → Type 0
   Is = Search.SearchAnswered F T cost reward (pos 0) (pos b) (negsuc 0) n potential potential' arcs arcs'
@@ -46,11 +52,22 @@ module _ (F T : List ℕ) (cost : List ℤ) (reward : List ℕ) (n : ℕ) (poten
     cycle = simple-of F T (length F) (weightOf (pos 0) (pos 0) (negsuc 0) cost reward) (take k arcs') (g .negative);
   }
 
--- question 14
-pub idle-found : {F T : List ℕ} {cost : List ℤ} {reward : List ℕ} {n : ℕ} {potential potential' : List ℤ} {arcs arcs' : List ℕ} {k : ℕ} → Graph F T cost reward n
-    → Search.CycleFound F T (weightOf (pos 0) (pos 2049) (negsuc 0) cost reward) n k potential potential' arcs arcs' → Idle F T (length F) reward
-idle-found {F} {T} {cost} {reward} {arcs' = arcs'} {k = k} g c =
-    idle F T (length F) cost reward (take k arcs') (omega (arith, length-take k arcs', c .short, g .nodes)) (c .negative)
+-- question 14: the search tells cycles that earn nothing, as b is above the number of arcs of any simple cycle
+pub record SearchForIdle (F T : List ℕ) (cost : List ℤ) (reward : List ℕ) (n : ℕ) (potential potential' : List ℤ) (arcs arcs' : List ℕ) (A : Answer) : Type 0 where
+  pub b : ℕ
+  pub above : 2048 < b
+  pub in-range : b ≤ 20480001
+  pub answered : Search.SearchAnswered F T cost reward (pos 0) (pos b) (negsuc 0) n potential potential' arcs arcs' A
+
+pub for-idle : {F T : List ℕ} {cost : List ℤ} {reward : List ℕ} {n b : ℕ} {potential potential' : List ℤ} {arcs arcs' : List ℕ} {A : Answer}
+    → Search.SearchAnswered F T cost reward (pos 0) (pos b) (negsuc 0) n potential potential' arcs arcs' A → 2048 < b → b ≤ 20480001
+    → SearchForIdle F T cost reward n potential potential' arcs arcs' A
+for-idle {b = b} z above small = record { b = b; above = above; in-range = small; answered = z }
+
+pub idle-found : {F T : List ℕ} {cost : List ℤ} {reward : List ℕ} {n b : ℕ} {potential potential' : List ℤ} {arcs arcs' : List ℕ} {k : ℕ} → Graph F T cost reward n → 2048 < b
+    → Search.CycleFound F T (weightOf (pos 0) (pos b) (negsuc 0) cost reward) n k potential potential' arcs arcs' → Idle F T (length F) reward
+idle-found {F} {T} {cost} {reward} {b = b} {arcs' = arcs'} {k = k} g above c =
+    idle F T (length F) cost reward b (take k arcs') (omega (arith, length-take k arcs', c .short, g .nodes)) (c .negative)
 
 -- the cycle copied to the front of the lent buffer
 module _ (hand cycle cycle' : List ℕ) (k : ℕ) (fits : k ≤ length hand) (e : cycle' ≡ take k hand ++ drop k cycle) where

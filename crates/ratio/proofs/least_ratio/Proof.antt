@@ -5,11 +5,12 @@ use Prim.Native.Nat.{ℕ}
 use borrow.Author.Needs.{needs}
 use native.Mathlib.Omega.{arith}
 use denote.Ref.{now}
-use lib.IntN.{ℤ, pos}
+use lib.IntN.{ℤ, pos, negsuc}
 use lib.ListN.{replicate}
+use Rattle.graph.specs.Answer.{SearchAnswered}
 use Rattle.ratio.specs.Answer.{no-to-13}
 use Rattle.ratio.proofs.Searches.{acyclic}
-use Rattle.ratio.proofs.VerdictLaws.{room, no-graph, found, none, first-hand}
+use Rattle.ratio.proofs.VerdictLaws.{room, coded, no-graph, found, none, first-hand}
 use Rattle.ratio.proofs.least_ratio.Statement.{statement}
 use Rattle.ratio.proofs.least_ratio.Tie as tie
 
@@ -23,6 +24,15 @@ D c = c .negative-cycle .last .1 .1 .1 .1 .1 .1 .0
 
 abbrev arcs : tie.After-negative-cycle → List ℕ
 arcs c = c .negative-cycle .last .1 .1 .1 .1 .1 .1 .1 .0
+
+-- what the search answered: each arc weighs −1
+searched : (c : tie.After-negative-cycle) → let a = S c .args in
+    SearchAnswered (now (a .from)) (now (a .to)) (now (a .cost)) (now (a .reward)) (pos 0) (pos 0) (negsuc 0) (a .nodes)
+    (replicate 2048 (pos 0)) (D c) (replicate 2048 0) (arcs c) (c .negative-cycle .result)
+searched c =
+    let a = S c .args in
+    coded (now (a .from)) (now (a .to)) (now (a .cost)) (now (a .reward)) (pos 0) (pos 0) (negsuc 0) (a .nodes)
+    (replicate 2048 (pos 0)) (D c) (replicate 2048 0) (arcs c) (c .negative-cycle .result) (c .negative-cycle .ensures) refl refl refl
 
 returns : tie.Need-returns
 returns c = ((λ w. omega (arith, w .potential-room)), record { potentials = refl; cycles = refl })
@@ -58,7 +68,7 @@ beyond-requires c κs =
     let r = f .before .before .before .before in
     let s = S r in
     let g = found (now (s .args .from)) (now (s .args .to)) (now (s .args .cost)) (now (s .args .reward)) (s .args .nodes) 0 (omega arith)
-    (replicate 2048 (pos 0)) (D r) (replicate 2048 0) (arcs r) (r .negative-cycle .result) (r .negative-cycle .ensures) k (f .found .given .1) in
+    (replicate 2048 (pos 0)) (D r) (replicate 2048 0) (arcs r) (r .negative-cycle .result) (searched r) k (f .found .given .1) in
     let h = first-hand (now (s .args .from)) (now (s .args .to)) (now (s .args .cost)) (now (s .args .reward)) (s .args .nodes)
     (replicate 2048 (pos 0)) (D r) (replicate 2048 0) (arcs r) k (r .negative-cycle .kept .1 .1 .1 .1 .1 .1 .1 .0) (room {A = ℕ} 2048 0 (g .0 .nodes)) (g .1) in
     (record { graph = g .0; potential-room = omega arith; cycle-room = omega arith }, h)
@@ -68,7 +78,7 @@ returns-3 c =
     let r = c .before .before .before .before in
     let s = S r in
     let no = no-graph (now (s .args .from)) (now (s .args .to)) (now (s .args .cost)) (now (s .args .reward)) (s .args .nodes) 0 (omega arith)
-    (replicate 2048 (pos 0)) (D r) (replicate 2048 0) (arcs r) (r .negative-cycle .result) (r .negative-cycle .ensures) in
+    (replicate 2048 (pos 0)) (D r) (replicate 2048 0) (arcs r) (r .negative-cycle .result) (searched r) in
     ((λ w. no (room 2048 (pos 0) (w .graph .nodes)) (room {A = ℕ} 2048 0 (w .graph .nodes)) (c .enum-told .given .1) (w .graph)), record { potentials = refl; cycles = refl })
 
 returns-4 : tie.Need-returns-4
@@ -76,7 +86,7 @@ returns-4 c =
     let r = c .before .before .before .before in
     let s = S r in
     let g = none (now (s .args .from)) (now (s .args .to)) (now (s .args .cost)) (now (s .args .reward)) (s .args .nodes) 0 (omega arith)
-    (replicate 2048 (pos 0)) (D r) (replicate 2048 0) (arcs r) (r .negative-cycle .result) (r .negative-cycle .ensures) (c .enum-told2 .given .1) in (
+    (replicate 2048 (pos 0)) (D r) (replicate 2048 0) (arcs r) (r .negative-cycle .result) (searched r) (c .enum-told2 .given .1) in (
       (
         record { graph = g .0; potential-room = omega arith; cycle-room = omega arith },
         no-to-13 refl (acyclic (now (s .args .from)) (now (s .args .to)) _ (now (s .args .cost)) (now (s .args .reward)) (g .1 .none)),

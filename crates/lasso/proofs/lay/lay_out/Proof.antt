@@ -1,8 +1,8 @@
 -- The stem, and then the two parts of the cycle.
-use mathlib.Core.Path.{refl, subst}
-use Prim.Native.Nat.{ℕ, _-_}
+use mathlib.Core.Path.{_≡_, refl, subst}
+use Prim.Native.Nat.{ℕ, _+_, _-_}
 use lib.ListN.{length}
-use lib.Seq.{slice}
+use lib.Seq.{slice, paste}
 use Rattle.walks.specs.Lasso.{Tree, Stem}
 use Rattle.lasso.proofs.Laying.{tree-of, laid-out}
 use borrow.Author.Needs.{needs}
@@ -117,9 +117,12 @@ returns c =
     let order = t .last .1 .1 .1 .0 in
     let w = t .ensures .1 .1 (tree f) in
     let x = subst (λ (y : ℕ). Stem (now (s .args .from)) (now (s .args .to)) (length (now (s .args .from))) 0 (slice (t .result) (length order) order) y) (h .before .node .ensures) (w .0) in
+    let long = 2048 - t .result in
+    -- the first part of the cycle stands behind the second
+    let behind : copy3 .last .1 .1 .0 ≡ paste (copy2 .last .1 .1 .0) (long + (s .args .k - f .first .result)) (now (s .args .cycle)) (f .first .result) = copy3 .ensures in
     laid-out (now (s .args .from)) (now (s .args .to)) (now (s .args .tree)) (now (s .args .cycle)) order (now (s .args .arcs)) (copy1 .last .1 .1 .0) (copy2 .last .1 .1 .0) (copy3 .last .1 .1 .0)
-    (s .args .nodes) (s .args .k) (t .result) (f .first .result) (2048 - t .result) (t .kept .1 .1 .1 .0) (t .ensures .0) (omega (arith, t .ensures .1 .0)) refl
-    (f .first .ensures .0) (s .pre .cycle-room) (s .pre .arcs-room) (f .first .ensures .1 .0) (f .first .ensures .1 .1) x (w .1) (copy1 .ensures) (copy2 .ensures) (copy3 .ensures)
+    (s .args .nodes) (s .args .k) (t .result) (f .first .result) long (t .kept .1 .1 .1 .0) (t .ensures .0) (omega (arith, t .ensures .1 .0)) refl
+    (f .first .ensures .0) (s .pre .cycle-room) (s .pre .arcs-room) (f .first .ensures .1 .0) (f .first .ensures .1 .1) x (w .1) (copy1 .ensures) (copy2 .ensures) behind
 
 pub lay-out-spec : {M : Type 1} → statement M
 lay-out-spec =

@@ -43,10 +43,10 @@ returns : tie.Need-returns
 returns c =
     let a = c .before .before .before .args in
     let g = c .before .gcd .result in
-    let e : toZ w64 (ofZ w64 (c .with-sign .result)) ≡ signedAs (natAbs (a .cost) / g) (a .cost) =
+    let numerator : toZ w64 (ofZ w64 (c .with-sign .result)) ≡ signedAs (natAbs (a .cost) / g) (a .cost) =
     toZ-ofZ w64 (c .with-sign .result) (sfits-of (c .with-sign .ok)) ∙ c .with-sign .ensures
     ∙ ap₂ (λ (n : ℕ) (z : ℤ). signedAs (n / g) z) (size (c .before)) (toZ-ofZ w64 (a .cost) (c .before .before .before .fits .cost)) in
-    subst⁻¹ (λ (p : ℤ). Reduced (a .cost) (a .reward) p (a .reward / g)) e (reduced (a .cost) (a .reward) g (common (c .before)) (c .before .before .before .pre .1))
+    subst⁻¹ (λ (p : ℤ). Reduced (a .cost) (a .reward) p (a .reward / g)) numerator (reduced (a .cost) (a .reward) g (common (c .before)) (c .before .before .before .pre .1))
 
 pub reduce-spec : {M : Type 1} → statement M
 reduce-spec =

@@ -12,7 +12,7 @@ use lib.ListN.{length, replicate}
 use Rattle.walks.specs.Cycles.{EachEarns}
 use Rattle.ratio.specs.Answer.{no-to-14, yes-to-both}
 use Rattle.ratio.proofs.Searches.{each-earns}
-use Rattle.ratio.proofs.VerdictLaws.{room, no-graph, found, none, idle-found, copied-front, copied-rest}
+use Rattle.ratio.proofs.VerdictLaws.{room, no-graph, found, none, SearchForIdle, for-idle, idle-found, copied-front, copied-rest}
 use Rattle.ratio.proofs.improve.beyond.Statement.{statement}
 use Rattle.ratio.proofs.improve.beyond.Tie as tie
 
@@ -34,14 +34,20 @@ D c = c .negative-cycle .last .1 .1 .1 .1 .1 .1 .0
 abbrev arcs : tie.After-negative-cycle → List ℕ
 arcs c = c .negative-cycle .last .1 .1 .1 .1 .1 .1 .1 .0
 
+-- the search tells cycles that earn nothing
+searched : (c : tie.After-negative-cycle) → let a = S c .args in
+    SearchForIdle (now (a .from)) (now (a .to)) (now (a .cost)) (now (a .reward)) (a .nodes) (replicate 2048 (pos 0)) (D c) (replicate 2048 0) (arcs c) (c .negative-cycle .result)
+searched c = for-idle (c .negative-cycle .ensures) (omega arith) (omega arith)
+
 -- no cycle earns nothing
 earns : (c : tie.After-enum-told3) → let s = S (c .before .before .before .before) in EachEarns (now (s .args .from)) (now (s .args .to)) (length (now (s .args .from))) (now (s .args .reward))
 earns c =
     let r = c .before .before .before .before in
     let s = S r in
-    let g = none (now (s .args .from)) (now (s .args .to)) (now (s .args .cost)) (now (s .args .reward)) (s .args .nodes) 2049 (omega arith)
-    (replicate 2048 (pos 0)) (D r) (replicate 2048 0) (arcs r) (r .negative-cycle .result) (r .negative-cycle .ensures) (c .enum-told3 .given .1) in
-    each-earns (now (s .args .from)) (now (s .args .to)) _ (now (s .args .cost)) (now (s .args .reward)) (g .1 .none)
+    let i = searched r in
+    let g = none (now (s .args .from)) (now (s .args .to)) (now (s .args .cost)) (now (s .args .reward)) (s .args .nodes) (i .b) (i .in-range)
+    (replicate 2048 (pos 0)) (D r) (replicate 2048 0) (arcs r) (r .negative-cycle .result) (i .answered) (c .enum-told3 .given .1) in
+    each-earns (now (s .args .from)) (now (s .args .to)) _ (now (s .args .cost)) (now (s .args .reward)) (i .b) (g .1 .none)
 
 slice-aggregate-negative-cycle : tie.Need-slice-aggregate-negative-cycle
 slice-aggregate-negative-cycle c = search needs
@@ -77,8 +83,9 @@ returns c =
     let r = c .before .before .before .before in
     let s = S r in
     let g = s .pre .0 .graph in
-    absurd (no-graph (now (s .args .from)) (now (s .args .to)) (now (s .args .cost)) (now (s .args .reward)) (s .args .nodes) 2049 (omega arith)
-    (replicate 2048 (pos 0)) (D r) (replicate 2048 0) (arcs r) (r .negative-cycle .result) (r .negative-cycle .ensures)
+    let i = searched r in
+    absurd (no-graph (now (s .args .from)) (now (s .args .to)) (now (s .args .cost)) (now (s .args .reward)) (s .args .nodes) (i .b) (i .in-range)
+    (replicate 2048 (pos 0)) (D r) (replicate 2048 0) (arcs r) (r .negative-cycle .result) (i .answered)
     (room 2048 (pos 0) (g .nodes)) (room {A = ℕ} 2048 0 (g .nodes)) (c .enum-told .given .1) g)
 
 returns-2 : tie.Need-returns-2
@@ -86,9 +93,10 @@ returns-2 c =
     let r = c .before .before .before .before in
     let s = S r in
     let k = c .enum-told2 .given in
-    let g = found (now (s .args .from)) (now (s .args .to)) (now (s .args .cost)) (now (s .args .reward)) (s .args .nodes) 2049 (omega arith)
-    (replicate 2048 (pos 0)) (D r) (replicate 2048 0) (arcs r) (r .negative-cycle .result) (r .negative-cycle .ensures) (k .0 .0) (k .1) in
-    ((s .pre .0, no-to-14 refl (idle-found (g .0) (g .1))), record { potentials = refl; cycles = refl })
+    let i = searched r in
+    let g = found (now (s .args .from)) (now (s .args .to)) (now (s .args .cost)) (now (s .args .reward)) (s .args .nodes) (i .b) (i .in-range)
+    (replicate 2048 (pos 0)) (D r) (replicate 2048 0) (arcs r) (r .negative-cycle .result) (i .answered) (k .0 .0) (k .1) in
+    ((s .pre .0, no-to-14 refl (idle-found (g .0) (i .above) (g .1))), record { potentials = refl; cycles = refl })
 
 same-length : tie.Need-same-length
 same-length c = T c .settle .kept .1 .1 .1 .1 .1 .0

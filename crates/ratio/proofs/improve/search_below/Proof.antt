@@ -1,5 +1,5 @@
 -- The search at the ratio of the cycle in hand.
-use mathlib.Core.Path.{_≡_, ap, _∙_}
+use mathlib.Core.Path.{_≡_, refl, ap, _∙_}
 use mathlib.Core.List.{List}
 use Prim.Native.Nat.{ℕ, _≤_}
 use borrow.Author.Needs.{needs}
@@ -13,7 +13,8 @@ use Rattle.integers.proofs.Parts.{abs-parts, neg-up, neg-dn}
 use Rattle.integers.proofs.Machine.{small, back, carry}
 use Rattle.graph.specs.Answer.{SearchAnswered}
 use Rattle.ratio.proofs.Bounds.{summed}
-use Rattle.ratio.proofs.TurnLaws.{p-small, q-small, never, better, done, coded, again-settled}
+use Rattle.ratio.proofs.TurnLaws.{p-small, q-small, never, better, done, again-settled}
+use Rattle.ratio.proofs.VerdictLaws.{coded}
 use Rattle.ratio.proofs.improve.search_below.Statement.{statement}
 use Rattle.ratio.proofs.improve.search_below.Tie as tie
 
@@ -53,9 +54,9 @@ found-is : (c : tie.After-negative-cycle) → SearchAnswered (now (S (R c) .args
     (pos (R c .fraction-of .result .q)) (negℤ (R c .fraction-of .result .p)) (pos 0) (S (R c) .args .nodes) (now (S (R c) .args .potential)) (D c)
     (now (S (R c) .args .hand)) (hand c) (c .negative-cycle .result)
 found-is c = let s = S (R c) in let f = R c .fraction-of .result in
-    coded (now (s .args .from)) (now (s .args .to)) (now (s .args .cost)) (now (s .args .reward)) (f .p) (f .q) (s .args .nodes) (now (s .args .potential))
+    coded (now (s .args .from)) (now (s .args .to)) (now (s .args .cost)) (now (s .args .reward)) (pos (f .q)) (negℤ (f .p)) (pos 0) (s .args .nodes) (now (s .args .potential))
     (D c) (now (s .args .hand)) (hand c) (c .negative-cycle .result)
-    (toZ-pos w64 (f .q) (omega (arith, q-of (R c)))) (back (neg-is (R c)) (fits-neg (R c))) (c .negative-cycle .ensures)
+    (c .negative-cycle .ensures) (toZ-pos w64 (f .q) (omega (arith, q-of (R c)))) (back (neg-is (R c)) (fits-neg (R c))) refl
 
 fraction-of-requires : tie.Need-fraction-of-requires
 fraction-of-requires c κs = let s = c .before .before .before .before .before in summed (s .pre .0) (s .pre .1)
