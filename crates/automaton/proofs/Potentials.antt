@@ -75,12 +75,3 @@ module _ {S : Type 0} (step : S → ℕ → Option (Priced S)) (start : S) where
       least-feasible = record {
         holds = λ u code x h e. onward u (x .to) (code ∷ []) (x .cost) (x .reward) h (reach-step step start u code x h e) (walk-one step u code x e);
       }
-
-      pub least-start : π start ≡ pos 0
-      least-start = let h = reach-start step start in let o = least start h in ext (π start) (pos 0) (omega (
-        arith,
-        le-parts (π start) (pos 0) (subst (λ (z : ℤ). π start ≤ℤ z) (weight-zero p q) (o .least [] (pos 0) 0 (walk-nil step start))),
-        le-parts (π start) (π start +ℤ π start)
-            (subst (λ (z : ℤ). π start ≤ℤ (π start +ℤ z)) (o .attained) (onward start start (o .codes) (o .cost) (o .reward) h h (o .walk))),
-        add-parts (π start) (π start),
-      ))

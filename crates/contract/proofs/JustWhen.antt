@@ -81,21 +81,20 @@ verdict-unique step start r t (no-cycle e h k) w = e ∙ sym (verdict-13 step st
 verdict-unique step start r t (idle-cycle e h k l) w = e ∙ sym (verdict-14 step start t h k l w)
 verdict-unique step start r t (all-yes e h k l) w = e ∙ sym (verdict-0 step start t h k l w)
 
+long-alike : (a b : Buffers) → SameLengths a b → LongEnough a → LongEnough b
+long-alike a b same h = record {
+  nodes = omega (arith, h .nodes, same .nodes);
+  potentials = omega (arith, h .potentials, same .potentials);
+  steps = omega (arith, h .steps, same .steps);
+}
+
 -- the refusal depends on the sheet and the buffers' lengths alone
 module _ (bytes : List ℕ) (a b : Buffers) (same : SameLengths a b) (r t : ℕ) where
   over : LongEnough a → LongEnough b
-  over h = record {
-    nodes = omega (arith, h .nodes, same .nodes);
-    potentials = omega (arith, h .potentials, same .potentials);
-    steps = omega (arith, h .steps, same .steps);
-  }
+  over = long-alike a b same
 
   back : LongEnough b → LongEnough a
-  back h = record {
-    nodes = omega (arith, h .nodes, same .nodes);
-    potentials = omega (arith, h .potentials, same .potentials);
-    steps = omega (arith, h .steps, same .steps);
-  }
+  back = long-alike b a (record { nodes = sym (same .nodes); potentials = sym (same .potentials); steps = sym (same .steps) })
 
   pub refusal-unique : Judged bytes a r → Judged bytes b t → r ≡ t
   refusal-unique (too-short e h) (too-short f k) = e ∙ sym f

@@ -18,6 +18,26 @@ pub record Listed (l : List ℕ) (n x : ℕ) : Type 0 where
   pub below : index < n
   pub is : at l index ≡ x
 
+module _ {S : Type 0} (step : S → ℕ → Option (Priced S)) (start : S) (p : ℤ) (q : ℕ) where
+  -- "step codes (16-bit, stem then cycle)": the lasso "is walked from the start, closes, meets no node twice except where it closes, and its
+  -- cycle has exactly the ratio". Any such one will do.
+  pub record Lasso (s m : ℕ) (steps : List ℕ) : Type 0 where
+    -- the node where it closes
+    pub node : S
+    pub stem-cost : ℤ
+    pub stem-reward : ℕ
+    pub stem : Walk step start (take s steps) node stem-cost stem-reward
+    pub some-step : 1 ≤ m
+    pub cost : ℤ
+    pub reward : ℕ
+    pub cycle : Walk step node (slice s (s + m) steps) node cost reward
+    -- the first i steps and the first j lead to different nodes, unless i is s and j is s + m
+    pub simple : (i j : ℕ) → i < j → j < s + m → (x : S) (c d : ℤ) (r t : ℕ)
+        → Walk step start (take i steps) x c r → Walk step start (take j steps) x d t → ⊥
+    pub earns : 0 < reward
+    pub exact : pos q *ℤ cost ≡ p *ℤ pos reward
+    pub rest : (i : ℕ) → s + m ≤ i → i < length steps → at steps i ≡ 0
+
 module _ (step : ℕ → ℕ → Option (Priced ℕ)) (start : ℕ) where
   -- "n reachable nodes", "node numbers (32-bit, rising)": the first n entries are the reachable ones, each of them and no other
   pub record NodeList (n : ℕ) (nodes : List ℕ) : Type 0 where
@@ -34,29 +54,10 @@ module _ (step : ℕ → ℕ → Option (Priced ℕ)) (start : ℕ) where
       pub small : (i : ℕ) → i < n → natAbs (atℤ potentials i) < 1000000000000000
       pub rest : (i : ℕ) → n ≤ i → i < length potentials → atℤ potentials i ≡ pos 0
 
-    -- "step codes (16-bit, stem then cycle)": the lasso "is walked from the start, closes, meets no node twice except where it closes, and its
-    -- cycle has exactly the ratio". Any such one will do.
-    pub record Lasso (s m : ℕ) (steps : List ℕ) : Type 0 where
-      -- the node where it closes
-      pub node : ℕ
-      pub stem-cost : ℤ
-      pub stem-reward : ℕ
-      pub stem : Walk step start (take s steps) node stem-cost stem-reward
-      pub some-step : 1 ≤ m
-      pub cost : ℤ
-      pub reward : ℕ
-      pub cycle : Walk step node (slice s (s + m) steps) node cost reward
-      -- the first i steps and the first j lead to different nodes, unless i is s and j is s + m
-      pub simple : (i j : ℕ) → i < j → j < s + m → (x : ℕ) (c d : ℤ) (r t : ℕ)
-          → Walk step start (take i steps) x c r → Walk step start (take j steps) x d t → ⊥
-      pub earns : 0 < reward
-      pub exact : pos q *ℤ cost ≡ p *ℤ pos reward
-      pub rest : (i : ℕ) → s + m ≤ i → i < length steps → at steps i ≡ 0
-
     pub record Accepted (n s m : ℕ) (nodes : List ℕ) (potentials : List ℤ) (steps : List ℕ) : Type 0 where
       -- "the ratio p/q in lowest terms": some reachable cycle has it, and none is below it
       pub ratio : LeastRatio step start p q
       pub node-list : NodeList n nodes
       pub potential-list : PotentialList n nodes potentials
-      pub lasso : Lasso s m steps
+      pub lasso : Lasso step start p q s m steps
       pub short : s + m ≤ n

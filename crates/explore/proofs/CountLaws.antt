@@ -8,8 +8,8 @@ use mir.Val.{Fits}
 pub first : (l : ℕ) → 2048 ≤ l → 0 < l
 first l h = omega arith
 
-pub within : (i n l : ℕ) → i < n → n ≤ l → i < l
-within i n l h k = omega arith
+pub in-room : (i n l : ℕ) → i < n → n ≤ l → i < l
+in-room i n l h k = omega arith
 
 -- n nodes and m arcs are found, and turn t is taken
 pub record Counts (n m t : ℕ) : Type 0 where

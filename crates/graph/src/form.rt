@@ -9,7 +9,7 @@ ghost use Rattle.graph.specs.Answer.{SearchArguments};
 use crate::Coefficients;
 use crate::entries;
 
-fn within(x: i64, low: i64, high: i64) -> bool
+fn is_within(x: i64, low: i64, high: i64) -> bool
     ensures { λ t. ⌜ Test ((low ≤ℤ x) × (x ≤ℤ high)) t ⌝ }
 {
     if x < low {
@@ -24,13 +24,13 @@ fn in_range(k: Coefficients) -> bool
     let a = k.a;
     let b = k.b;
     let c = k.c;
-    if !within(a, -20480000, 20480000) {
+    if !is_within(a, -20480000, 20480000) {
         return false;
     }
-    if !within(b, -20480001, 20480001) {
+    if !is_within(b, -20480001, 20480001) {
         return false;
     }
-    within(c, -1, 1)
+    is_within(c, -1, 1)
 }
 
 fn arc(from: &[u16], to: &[u16], cost: &[i16], reward: &[u16], nodes: usize, e: usize) -> bool
@@ -46,7 +46,7 @@ fn arc(from: &[u16], to: &[u16], cost: &[i16], reward: &[u16], nodes: usize, e: 
     if 10000 < entries::entry(reward, e) {
         return false;
     }
-    within(entries::price(cost, e), -10000, 10000)
+    is_within(entries::price(cost, e), -10000, 10000)
 }
 
 fn arcs(from: &[u16], to: &[u16], cost: &[i16], reward: &[u16], nodes: usize) -> bool

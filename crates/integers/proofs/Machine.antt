@@ -17,16 +17,8 @@ carry {w} f e = subst (SFits w) (sym e) f
 pub back : {w : Width} {x y : ℤ} → x ≡ y → SFits w y → toZ w (ofZ w x) ≡ y
 back {w} {y = y} e f = ap (λ (z : ℤ). toZ w (ofZ w z)) e ∙ toZ-ofZ w y f
 
-pub within : {w : Width} {x : ℤ} → SFits w x → (up x ≤ 2 ^ hbits w) × (dn x ≤ 2 ^ hbits w)
-within {w} {x = pos n} f = (omega (arith, f .sfits), omega arith)
-within {w} {x = negsuc n} f = (omega arith, omega (arith, f .sfits))
-
 pub small : (x : ℤ) (n : ℕ) → natAbs x < n → n ≤ 2 ^ 63 → SFits w64 x
 small x n h b = sfits-of (mag-below x (2 ^ 63) (omega (arith, abs-parts x)) (omega (arith, abs-parts x)))
-
-pub sum-small : (x y : ℤ) (n : ℕ) → natAbs x < n → natAbs y < n → n + n ≤ 2 ^ 63 → SFits w64 (x +ℤ y)
-sum-small x y n h k b = sfits-of (mag-below (x +ℤ y) (2 ^ 63)
-    (omega (arith, add-parts x y, abs-parts x, abs-parts y)) (omega (arith, add-parts x y, abs-parts x, abs-parts y)))
 
 -- a word of 16 bits, widened
 module _ (z : ℤ) (fits : SFits w16 z) where

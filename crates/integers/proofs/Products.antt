@@ -63,9 +63,6 @@ mul-sum a x y = ext (a *ℤ (x +ℤ y)) (a *ℤ x +ℤ a *ℤ y) (omega (
   scaled (dn a) (up (x +ℤ y)) (dn x) (dn y) (dn (x +ℤ y)) (up x) (up y) (add-parts x y .is),
 ))
 
-pub sum-mul : (x y a : ℤ) → (x +ℤ y) *ℤ a ≡ x *ℤ a +ℤ y *ℤ a
-sum-mul x y a = *ℤ-comm (x +ℤ y) a ∙ mul-sum a x y ∙ ap₂ _+ℤ_ (*ℤ-comm a x) (*ℤ-comm a y)
-
 pub times-mono : (n : ℕ) {x y : ℤ} → x ≤ℤ y → (pos n *ℤ x) ≤ℤ (pos n *ℤ y)
 times-mono n {x} {y} h = le-of (pos n *ℤ x) (pos n *ℤ y) (omega (
   arith,

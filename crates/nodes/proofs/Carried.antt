@@ -105,17 +105,6 @@ module _ {S T : Type 0} (f : S → ℕ → Option (Priced S)) (g : T → ℕ →
       holds = λ u m v r e. ok .holds (φ u) m (named φ v) (reach-named r) (same u m (reach-holds r) ∙ ap (Option·map (named φ)) e);
     }
 
-    -- and the other way
-    pub feasible-named : (p : ℤ) (q : ℕ) (π : T → ℤ) → Feasible f start p q (λ s. π (φ s)) → Feasible g (φ start) p q π
-    feasible-named p q π ok = record {
-      holds = λ y m v r e. let s = reach-back r in
-          let at = same (s .node) m (s .holds) in
-          let n = named-some φ (f (s .node) m) v (sym at ∙ ap (λ (z : T). g z m) (s .is) ∙ e) in
-          subst (λ (z : T). π (v .to) ≤ℤ (π z +ℤ weight p q (v .cost) (v .reward))) (s .is)
-          (subst (λ (w : Priced T). π (w .to) ≤ℤ (π (φ (s .node)) +ℤ weight p q (w .cost) (w .reward))) (n .name)
-          (ok .holds (s .node) m (n .value) (s .reach) (n .is)));
-    }
-
     -- unlike nodes have unlike names
     module _ (apart : (s t : S) → P s → P t → φ s ≡ φ t → s ≡ t) where
       pub cycle-back : {c : ℤ} {r : ℕ} → ReachableCycle g (φ start) c r → ReachableCycle f start c r

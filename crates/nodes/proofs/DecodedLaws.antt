@@ -88,11 +88,6 @@ module _ (s : List ℕ) (ok : checkOf s ≡ 0) where
   pub read-agrees : Agree (meaning s) (decodedMeaning (readOf s))
   read-agrees = subst (λ (d : Sheet). Agree (meaning s) (decodedMeaning d)) (sym (read-passed s ok)) decoded-agrees
 
-  pub read-step : (x code : ℕ) → isNumber firstLayout (meaning s) x ≡ true
-      → stepBy firstLayout (decodedMeaning (readOf s)) x code ≡ stepBy firstLayout (meaning s) x code
-  read-step x code h = sym (number-steps-agree firstLayout (meaning s) (decodedMeaning (readOf s)) read-agrees (sound s ok) x code
-      (node-there firstLayout (meaning s) (room s ok) x h))
-
 -- ---- the records at hand
 
 module _ (s : Sheet) (u : Node) where

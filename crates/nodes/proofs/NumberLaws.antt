@@ -24,7 +24,7 @@ use Rattle.automaton.proofs.Reached.{start-is-node, step-to-node}
 use Rattle.automaton.proofs.Comparison.{no-loop-below, run-weighs}
 use Rattle.nodes.specs.Numbers.{Layout, classAt, number, nodeOf, isNumber, stepBy, startNumber}
 use Rattle.nodes.proofs.Packing.{Fits, unpacked}
-use Rattle.nodes.proofs.Carried.{named, named-some, Source, Back, walk-named, walk-back, reach-named, reach-back, cycle-named, cycle-back, feasible-back, feasible-named, potential-back}
+use Rattle.nodes.proofs.Carried.{named, named-some, Source, Back, walk-named, walk-back, reach-named, reach-back, cycle-named, cycle-back, feasible-back, potential-back}
 
 -- the nodes of an automaton have room in a layout
 pub record Room (y : Layout) (A : Automaton) : Type 0 where
@@ -72,16 +72,6 @@ module _ (y : Layout) (A : Automaton) (room : Room y A) where
   pub same-step : (u : Node) (code : ℕ) → isNode A u ≡ true → stepBy y A (number y u) code ≡ Option·map (named (number y)) (step A u code)
   unfolding stepBy
   same-step u code h = ap (λ (w : Node). Option·map (named (number y)) (step A w code)) (node-of-number u h)
-
-  -- only the edges' codes, 32 and 33 are allowed
-  pub step-code {ℓ} : {X : Type ℓ} (x code : ℕ) (v : Priced ℕ) → stepBy y A x code ≡ some v
-      → (code < A .edges → code ≤ 31 → X) → (code ≡ 32 → X) → (code ≡ 33 → X) → X
-  unfolding stepBy
-  step-code x code v e f g h =
-      let u = nodeOf y (A .clocks) x in
-      let a = named-some (number y) (step A u code) v e in
-      step-cases A u code (a .value) (a .is)
-      (λ l s. f (ltb-true code (A .edges) (&&-left (ltb code (A .edges)) _ (edge-needs A u (a .value) code s .0))) l) (λ q s. g q) (λ q s. h q)
 
   -- at most one of codes 32 and 33
   pub unit-or-move-number : (x : ℕ) (v w : Priced ℕ) → stepBy y A x 32 ≡ some v → stepBy y A x 33 ≡ some w → ⊥
@@ -137,10 +127,6 @@ module _ (y : Layout) (A : Automaton) (room : Room y A) where
     pub potential-number : (p : ℤ) (q : ℕ) {u : Node} {z : ℤ} → isNode A u ≡ true → Potential (stepBy y A) (startNumber y A) p q (number y u) z
         → Potential (step A) (startNode A) p q u z
     potential-number = potential-back (step A) (stepBy y A) (number y) (λ u. isNode A u ≡ true) keeps same-step (startNode A) begins apart
-
-    pub number-feasible : (p : ℤ) (q : ℕ) (π : ℕ → ℤ) → Feasible (step A) (startNode A) p q (λ u. π (number y u))
-        → Feasible (stepBy y A) (startNumber y A) p q π
-    number-feasible = feasible-named (step A) (stepBy y A) (number y) (λ u. isNode A u ≡ true) keeps same-step (startNode A) begins
 
     -- ---- the comparison theorem, with potentials on numbers
 

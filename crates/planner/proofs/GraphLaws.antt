@@ -14,9 +14,9 @@ use Rattle.walks.specs.Walk.{at}
 use Rattle.walks.specs.Cycles.{Acyclic, EachEarns, Idle}
 use Rattle.walks.proofs.Walks.{walk-arc}
 use Rattle.ratio.specs.Answer.{RatioFound, RatioAnswered}
-use Rattle.ratio.specs.declared.Verdict.{Verdict}
-use Rattle.ratio.specs.declared.Verdict.the-variants.{Malformed, NoCycle, NoReward, Ratio}
-use Rattle.ratio.proofs.VerdictLaws.{room, numbered-13, numbered-14, numbered-0}
+use Rattle.ratio.specs.declared.RatioAnswer.{RatioAnswer}
+use Rattle.ratio.specs.declared.RatioAnswer.the-variants.{Malformed, NoCycle, NoReward, Ratio}
+use Rattle.ratio.proofs.RatioAnswerLaws.{room, numbered-13, numbered-14, numbered-0}
 use Rattle.contract.specs.Plan.{Answer, refusedPlan, Buffers, zeros, SameLengths, Judged, Planned}
 use Rattle.planner.specs.ContractTerms.{lentBuffers}
 use Rattle.planner.specs.PrivatePromises.{Handed, Cyclic, PlannedButForClearing}
@@ -66,9 +66,9 @@ refused-planned e j kept zero same some = rw e record {
   no-loop-below = λ z. absurd (omega arith);
 }
 
-module _ {F T C : List ℕ} {Z : List ℤ} {R order tree : List ℕ} {n : ℕ} (h : Handed F T C Z R order tree n) (D : List ℤ) (cycle : List ℕ) (W : Verdict)
+module _ {F T C : List ℕ} {Z : List ℤ} {R order tree : List ℕ} {n : ℕ} (h : Handed F T C Z R order tree n) (D : List ℤ) (cycle : List ℕ) (W : RatioAnswer)
     (z : RatioAnswered F T Z R n (replicate 2048 (pos 0)) D (replicate 2048 0) cycle W) where
-  abbrev Is : Verdict → Type 0
+  abbrev Is : RatioAnswer → Type 0
   Is = RatioAnswered F T Z R n (replicate 2048 (pos 0)) D (replicate 2048 0) cycle
 
   pub never : W ≡ Malformed → ⊥

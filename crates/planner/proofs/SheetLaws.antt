@@ -11,7 +11,7 @@ use Rattle.sheet.proofs.AcceptedLaws.{header}
 use Rattle.nodes.proofs.DecodedLaws.{read-passed}
 use Rattle.walks.specs.Walk.{at}
 use Rattle.lasso.specs.Answer.{TreeArc}
-use Rattle.ratio.proofs.VerdictLaws.{room}
+use Rattle.ratio.proofs.RatioAnswerLaws.{room}
 use Rattle.contract.specs.Plan as Contract
 use Rattle.contract.specs.Plan.{stepOn, startOf}
 use Rattle.contract.specs.Explored.{Explored, Overfull, stepRead, startRead, Sorted}

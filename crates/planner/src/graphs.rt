@@ -5,7 +5,7 @@ ghost use Rattle.contract.specs.Plan.{LongEnough};
 ghost use Rattle.planner.specs.ContractTerms.{lentBuffers, answerOf};
 ghost use Rattle.planner.specs.PrivatePromises.{Handed, OfSheet, Cyclic, Solved, PlannedButForClearing};
 use crate::Answer;
-use ratio::Verdict;
+use ratio::RatioAnswer;
 
 // The lasso of a cycle of the least ratio p / q, and the buffers. The first k entries of cycle are its arcs, least has the potentials.
 fn accept(
@@ -68,9 +68,9 @@ pub(crate) fn plan_graph(
     let mut cycle = [0usize; 2048];
     let verdict = ratio::least_ratio(from, to, cost, reward, n, &mut least, &mut cycle);
     match verdict {
-        Verdict::NoCycle => crate::output::refused(13),
-        Verdict::NoReward => crate::output::refused(14),
-        Verdict::Ratio(p, q, k) => accept(
+        RatioAnswer::NoCycle => crate::output::refused(13),
+        RatioAnswer::NoReward => crate::output::refused(14),
+        RatioAnswer::Ratio(p, q, k) => accept(
             from,
             to,
             code,
@@ -87,6 +87,6 @@ pub(crate) fn plan_graph(
             steps,
         ),
         // Never: the arguments are well formed.
-        Verdict::Malformed => crate::output::refused(13),
+        RatioAnswer::Malformed => crate::output::refused(13),
     }
 }

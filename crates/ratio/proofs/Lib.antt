@@ -4,4 +4,4 @@ pub mod Searches
 pub mod TurnLaws
 pub mod SumLaws
 pub mod SignLaws
-pub mod VerdictLaws
+pub mod RatioAnswerLaws

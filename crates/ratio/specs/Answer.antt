@@ -10,8 +10,8 @@ use Rattle.walks.specs.Walk.{at, atℤ}
 use Rattle.walks.specs.Weight.{weightOf, sum, total, NoneNegative, PotentialOrMark}
 use Rattle.walks.specs.Cycles.{SimpleCycle, Acyclic, EachEarns, Idle}
 use Rattle.walks.specs.Form.{Graph}
-use Rattle.ratio.specs.declared.Verdict.{Verdict}
-use Rattle.ratio.specs.declared.Verdict.the-variants.{Malformed, NoCycle, NoReward, Ratio}
+use Rattle.ratio.specs.declared.RatioAnswer.{RatioAnswer}
+use Rattle.ratio.specs.declared.RatioAnswer.the-variants.{Malformed, NoCycle, NoReward, Ratio}
 
 -- the arguments: a graph of n nodes, and n entries or more in each buffer
 pub record RatioArguments (F T : List ℕ) (cost : List ℤ) (reward : List ℕ) (n potentials arcs : ℕ) : Type 0 where
@@ -43,11 +43,11 @@ pub record Kept (potential potential' : List ℤ) (cycle cycle' : List ℕ) : Ty
   pub cycles : cycle' ≡ cycle
 
 -- 01's number of each answer; malformed arguments have no number of 01's, and no plan gets that answer
-abbrev pub verdictNumber : Verdict → Option ℕ
-verdictNumber Malformed = none
-verdictNumber NoCycle = some 13
-verdictNumber NoReward = some 14
-verdictNumber (Ratio p q k) = some 0
+abbrev pub ratioNumber : RatioAnswer → Option ℕ
+ratioNumber Malformed = none
+ratioNumber NoCycle = some 13
+ratioNumber NoReward = some 14
+ratioNumber (Ratio p q k) = some 0
 
 -- questions 13 and 14 put to the graph, with the number of the first answered no, and 0 where both are answered yes. No two cases hold together.
 pub data RatioQuestions (F T reward : List ℕ) (number : ℕ) : Type 0 where
@@ -61,12 +61,12 @@ RatioNumbered F T cost reward n potentials arcs none = ¬ RatioArguments F T cos
 RatioNumbered F T cost reward n potentials arcs (some number) = RatioArguments F T cost reward n potentials arcs × RatioQuestions F T reward number
 
 -- what an answer leaves in the buffers
-abbrev pub RatioLeft : List ℕ → List ℕ → List ℤ → List ℕ → ℕ → List ℤ → List ℤ → List ℕ → List ℕ → Verdict → Type 0
+abbrev pub RatioLeft : List ℕ → List ℕ → List ℤ → List ℕ → ℕ → List ℤ → List ℤ → List ℕ → List ℕ → RatioAnswer → Type 0
 RatioLeft F T cost reward n potential potential' cycle cycle' Malformed = Kept potential potential' cycle cycle'
 RatioLeft F T cost reward n potential potential' cycle cycle' NoCycle = Kept potential potential' cycle cycle'
 RatioLeft F T cost reward n potential potential' cycle cycle' NoReward = Kept potential potential' cycle cycle'
 RatioLeft F T cost reward n potential potential' cycle cycle' (Ratio p q k) = RatioFound F T cost reward n p q k potential potential' cycle cycle'
 
-abbrev pub RatioAnswered : List ℕ → List ℕ → List ℤ → List ℕ → ℕ → List ℤ → List ℤ → List ℕ → List ℕ → Verdict → Type 0
+abbrev pub RatioAnswered : List ℕ → List ℕ → List ℤ → List ℕ → ℕ → List ℤ → List ℤ → List ℕ → List ℕ → RatioAnswer → Type 0
 RatioAnswered F T cost reward n potential potential' cycle cycle' v =
-    RatioNumbered F T cost reward n (length potential) (length cycle) (verdictNumber v) × RatioLeft F T cost reward n potential potential' cycle cycle' v
+    RatioNumbered F T cost reward n (length potential) (length cycle) (ratioNumber v) × RatioLeft F T cost reward n potential potential' cycle cycle' v

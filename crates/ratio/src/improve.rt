@@ -2,7 +2,7 @@
 ghost use lib.ListN.{length};
 ghost use Rattle.ratio.specs.Answer.{RatioArguments, RatioAnswered};
 ghost use Rattle.ratio.specs.Turns.{Ready, InHand, Turned, LeastInHand};
-use crate::Verdict;
+use crate::RatioAnswer;
 use graph::Answer;
 use graph::Coefficients;
 
@@ -92,7 +92,7 @@ pub(crate) fn beyond(
     cycle: &mut [usize],
     hand: &mut [usize],
     k: usize,
-) -> Verdict
+) -> RatioAnswer
     requires { ⌜ RatioArguments (now from) (now to) (now cost) (now reward) nodes (length (now potential)) (length (now cycle)) ⌝ }
     requires { ⌜ InHand (now from) (now to) nodes (now hand) k ⌝ }
     ensures { λ r. ⌜ RatioAnswered (now (from .entry)) (now (to .entry)) (now (cost .entry)) (now (reward .entry)) nodes
@@ -116,15 +116,15 @@ pub(crate) fn beyond(
         &mut idle_arcs,
     );
     match found {
-        Answer::Malformed => Verdict::Malformed,
-        Answer::Cycle(_) => Verdict::NoReward,
+        Answer::Malformed => RatioAnswer::Malformed,
+        Answer::Cycle(_) => RatioAnswer::NoReward,
         Answer::Potentials => {
             let least = settle(from, to, cost, reward, nodes, potential, hand, k);
             let p = least.p;
             let q = least.q;
             let arcs = least.arcs;
             crate::copy::arcs(hand, cycle, arcs);
-            Verdict::Ratio(p, q, arcs)
+            RatioAnswer::Ratio(p, q, arcs)
         }
     }
 }

@@ -9,7 +9,7 @@ mod improve;
 
 // Malformed arguments; no cycle (question 13); a cycle that earns nothing (question 14); or the least ratio p / q, in lowest terms, and the
 // number of arcs of a cycle that has it.
-pub enum Verdict {
+pub enum RatioAnswer {
     Malformed,
     NoCycle,
     NoReward,
@@ -26,23 +26,23 @@ pub fn least_ratio(
     nodes: usize,
     potential: &mut [i64],
     cycle: &mut [usize],
-) -> Verdict
+) -> RatioAnswer
     ensures { λ r. ⌜ RatioAnswered (now (from .entry)) (now (to .entry)) (now (cost .entry)) (now (reward .entry)) nodes
         (now (potential .entry)) (now (potential .exit)) (now (cycle .entry)) (now (cycle .exit)) r ⌝ }
 {
     if potential.len() < nodes {
-        return Verdict::Malformed;
+        return RatioAnswer::Malformed;
     }
     if cycle.len() < nodes {
-        return Verdict::Malformed;
+        return RatioAnswer::Malformed;
     }
     let mut unused = [0i64; 2048];
     let mut hand = [0usize; 2048];
     let any = Coefficients { a: 0, b: 0, c: -1 };
     let found = graph::negative_cycle(from, to, cost, reward, any, nodes, &mut unused, &mut hand);
     match found {
-        graph::Answer::Malformed => Verdict::Malformed,
-        graph::Answer::Potentials => Verdict::NoCycle,
+        graph::Answer::Malformed => RatioAnswer::Malformed,
+        graph::Answer::Potentials => RatioAnswer::NoCycle,
         graph::Answer::Cycle(k) => improve::beyond(
             from,
             to,

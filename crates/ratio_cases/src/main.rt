@@ -1,6 +1,6 @@
 // Runs the least ratio on small graphs and on rings of 2,048 arcs, and prints each answer.
 use libc::STDOUT_FILENO;
-use ratio::Verdict;
+use ratio::RatioAnswer;
 
 fn print_signed(z: i64) {
     if z < 0 {
@@ -25,16 +25,16 @@ fn run(name: &[u8], from: &[u16], to: &[u16], cost: &[i16], reward: &[u16], node
     io::write_all(STDOUT_FILENO, b": ");
     let v = ratio::least_ratio(from, to, cost, reward, nodes, &mut potential, &mut cycle);
     match v {
-        Verdict::Malformed => {
+        RatioAnswer::Malformed => {
             io::write_all(STDOUT_FILENO, b"malformed");
         }
-        Verdict::NoCycle => {
+        RatioAnswer::NoCycle => {
             io::write_all(STDOUT_FILENO, b"no cycle");
         }
-        Verdict::NoReward => {
+        RatioAnswer::NoReward => {
             io::write_all(STDOUT_FILENO, b"no reward");
         }
-        Verdict::Ratio(p, q, arcs) => {
+        RatioAnswer::Ratio(p, q, arcs) => {
             print_ratio(p, q, arcs);
         }
     }

@@ -1,9 +1,10 @@
 -- Asked from the start with each code of a walk in turn, the public step answers as the walk goes; and whatever it answers is a walk.
 use mathlib.Core.Path.{_≡_, refl, sym, ap, subst, _∙_}
-use mathlib.Core.Bool.{true}
+use mathlib.Core.Bool.{Bool, true, cond}
 use mathlib.Core.List.{List}
 use mathlib.Core.Option.{Option, none, some, Option·map}
 use Prim.Native.Nat.{ℕ}
+use borrow.Author.Tests.{eq-eqb}
 use lib.Dec.{eqb}
 use lib.IntN.{ℤ}
 use Rattle.automaton.specs.Tests.{only}
@@ -15,10 +16,9 @@ use Rattle.nodes.specs.Meaning.{meaning, layoutOf}
 use Rattle.nodes.proofs.CheckedLaws.{sound, room}
 use Rattle.nodes.proofs.Carried.{named, walk-named, walk-back}
 use Rattle.nodes.proofs.NumberLaws.{step-to-number, reached-is-number}
-use Rattle.region.specs.Answers.{answered}
+use Rattle.region.specs.Answers.{refusedStep, answered}
 use Rattle.region.specs.declared.Stepped.{Stepped}
-use Rattle.step.specs.Step.{stepOf, asked}
-use Rattle.step.proofs.StepLaws.{step-is}
+use Rattle.step.specs.Step.{answerAt, stepOf, asked}
 
 -- what an answer says is the step that it tells
 told : (o : Option (Priced ℕ)) → only (eqb (answered o .refusal) 0) (record { to = answered o .number; cost = answered o .cost; reward = answered o .reward }) ≡ o
@@ -39,12 +39,18 @@ module _ (s : List ℕ) (ok : checkOf s ≡ 0) where
   abbrev start : ℕ
   start = startNumber (layoutOf s) (meaning s)
 
+  -- at a node's number the answer is the step that walks are made of
+  step-is : (x code : ℕ) → P x → stepOf s x code ≡ answered (step x code)
+  unfolding stepOf answerAt
+  step-is x code h = ap (λ (b : Bool). cond b (answerAt (layoutOf s) (meaning s) x code) (refusedStep (checkOf s))) (eq-eqb (checkOf s) 0 ok)
+      ∙ ap (λ (b : Bool). cond b (answered (step x code)) (refusedStep 15)) h
+
   keeps : (x code : ℕ) (v : Priced ℕ) → step x code ≡ some v → P x → P (v .to)
   keeps = step-to-number (layoutOf s) (meaning s) (room s ok) (sound s ok)
 
   same : (x code : ℕ) → P x → asked s x code ≡ Option·map (named (λ (x : ℕ). x)) (step x code)
   same x code h =
-      ap (λ (a : Stepped). only (eqb (a .refusal) 0) (record { to = a .number; cost = a .cost; reward = a .reward })) (step-is s ok x code h)
+      ap (λ (a : Stepped). only (eqb (a .refusal) 0) (record { to = a .number; cost = a .cost; reward = a .reward })) (step-is x code h)
       ∙ told (step x code) ∙ named-same (step x code)
 
   module _ {x : ℕ} (reached : Reachable step start x) where

@@ -1,4 +1,3 @@
 pub mod SheetLaws
-pub mod StepLaws
 pub mod AskedLaws
 pub mod StepNumberLaws

@@ -24,10 +24,6 @@ module _ (F T : List ℕ) (W : ℕ → ℕ) (m : ℕ) (D : List ℕ) (n : ℕ) (
       let r : (at D y < inf) × (at D y + bias * length c ≤ at D (at T e) + total W c) = along (at T e) c y (w .2) (omega (arith, g .light e (w .0))) in
       omega arith
 
-  -- no cycle that some walk from node 0 meets has negative weight
-  pub no-negative : (x : ℕ) (p c : List ℕ) → ArcWalk F T m 0 p x → ArcWalk F T m x c x → bias * length c ≤ total W c
-  no-negative x p c u w = omega (arith, along x c x w (along 0 p x u (omega (arith, l .first)) .0))
-
   -- each potential is at most the weight of each walk, and by `reached` the weight of one: the least
   pub least : (v : ℕ) (c : List ℕ) → ArcWalk F T m 0 c v → (at D v < inf) × (at D v + bias * length c ≤ start + total W c)
   least v c w = omega (arith, along 0 c v w (omega (arith, l .first)), l .first)

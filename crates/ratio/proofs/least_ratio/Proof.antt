@@ -10,7 +10,7 @@ use lib.ListN.{replicate}
 use Rattle.graph.specs.Answer.{SearchAnswered}
 use Rattle.ratio.specs.Answer.{no-to-13}
 use Rattle.ratio.proofs.Searches.{acyclic}
-use Rattle.ratio.proofs.VerdictLaws.{room, coded, no-graph, found, none, first-hand}
+use Rattle.ratio.proofs.RatioAnswerLaws.{room, coded, no-graph, found, none, first-hand}
 use Rattle.ratio.proofs.least_ratio.Statement.{statement}
 use Rattle.ratio.proofs.least_ratio.Tie as tie
 

@@ -11,7 +11,7 @@ use Rattle.nodes.specs.Numbers.{firstLayout}
 use Rattle.nodes.specs.Decoded.{decodedMeaning}
 use Rattle.walks.specs.Walk.{at}
 use Rattle.explore.proofs.StepLaws.{start-zero, not-here}
-use Rattle.explore.proofs.CountLaws.{first, within, turns-fit, edge-place, edge-offset, location-offset, hint-offset}
+use Rattle.explore.proofs.CountLaws.{first, in-room, turns-fit, edge-place, edge-offset, location-offset, hint-offset}
 use Rattle.explore.proofs.SearchLaws.{begin, skip, done, filled}
 use Rattle.explore.proofs.EnterLaws.{small, no-arc, stopped, known-node, new-node}
 use Rattle.explore.proofs.AnswerLaws.{too-many-answered, graph-answered}
@@ -51,7 +51,7 @@ mul-x : tie.Need-mul-x Inv-loop μ-loop
 mul-x c = numbers c .node-offset
 
 slice-read-x : tie.Need-slice-read-x Inv-loop μ-loop
-slice-read-x c = within _ 2048 _ (numbers (c .before) .node-in) (long (c .before .before) .node)
+slice-read-x c = in-room _ 2048 _ (numbers (c .before) .node-in) (long (c .before .before) .node)
 
 mul-edge : tie.Need-mul-edge Inv-loop μ-loop
 mul-edge c = edge-offset (c .before .before .loop .t)
@@ -151,13 +151,13 @@ join-requires c κs =
     let k = numbers (Q (T e)) in
     let r = long (L (T e)) in
     let j = small _ _ _ _ _ _ _ _ _ _ _ _ (L (T e) .loop .inv .0 .few-nodes) (e .enter .ensures) in
-    (within _ 69632 _ (k .arcs) (r .from), (within _ 69632 _ (k .arcs) (r .to), (within _ 69632 _ (k .arcs) (r .code), (k .node-low, (j, k .code-low)))))
+    (in-room _ 69632 _ (k .arcs) (r .from), (in-room _ 69632 _ (k .arcs) (r .to), (in-room _ 69632 _ (k .arcs) (r .code), (k .node-low, (j, k .code-low)))))
 
 price-requires : tie.Need-price-requires Inv-loop μ-loop
 price-requires c κs =
     let a = T (E (c .before .before .before .before .before .before .before .before .before)) in
     let k = numbers (Q a) in
-    (within _ 69632 _ (k .arcs) (long (L a) .cost), within _ 69632 _ (k .arcs) (long (L a) .reward))
+    (in-room _ 69632 _ (k .arcs) (long (L a) .cost), in-room _ 69632 _ (k .arcs) (long (L a) .reward))
 
 add-m : tie.Need-add-m Inv-loop μ-loop
 add-m c = record { fits = omega (arith, numbers (Q (T (E (J (P c))))) .arcs) }

@@ -10,7 +10,7 @@ use Rattle.walks.proofs.Tests.{Test, fails, range-test}
 use Rattle.graph.proofs.form.arc.Statement.{statement}
 use Rattle.graph.proofs.form.arc.Tie as tie
 
-abbrev S : tie.After-within → tie.Start
+abbrev S : tie.After-is-within → tie.Start
 S c = c .before .before .before .before .before .before .before .before .before .before .before
 
 entry-requires : tie.Need-entry-requires
@@ -34,12 +34,12 @@ returns-3 c = fails (λ p. omega (arith, p .reward-small, c .before .entry3 .ens
 price-requires : tie.Need-price-requires
 price-requires c κs = search needs
 
-within-requires : tie.Need-within-requires
-within-requires c κs = search needs
+is-within-requires : tie.Need-is-within-requires
+is-within-requires c κs = search needs
 
-Cost : (c : tie.After-within) → Test (natAbs (atℤ (now (S c .args .cost)) (S c .args .e)) ≤ 10000) (c .within .result)
-Cost c = let p = c .before .price in subst (λ (z : ℤ). Test (natAbs z ≤ 10000) (c .within .result)) (p .ensures)
-    (range-test 9999 (p .result) (p .ok) (c .within .ensures))
+Cost : (c : tie.After-is-within) → Test (natAbs (atℤ (now (S c .args .cost)) (S c .args .e)) ≤ 10000) (c .is-within .result)
+Cost c = let p = c .before .price in subst (λ (z : ℤ). Test (natAbs z ≤ 10000) (c .is-within .result)) (p .ensures)
+    (range-test 9999 (p .result) (p .ok) (c .is-within .ensures))
 
 returns-4 : tie.Need-returns-4
 returns-4 c = record {
@@ -55,4 +55,4 @@ returns-4 c = record {
 pub arc-spec : {M : Type 1} → statement M
 arc-spec =
     tie.close
-    (tie.spec entry-requires returns entry-requires-2 returns-2 entry-requires-3 returns-3 price-requires within-requires returns-4)
+    (tie.spec entry-requires returns entry-requires-2 returns-2 entry-requires-3 returns-3 price-requires is-within-requires returns-4)

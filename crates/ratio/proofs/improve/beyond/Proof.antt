@@ -12,7 +12,7 @@ use lib.ListN.{length, replicate}
 use Rattle.walks.specs.Cycles.{EachEarns}
 use Rattle.ratio.specs.Answer.{no-to-14, yes-to-both}
 use Rattle.ratio.proofs.Searches.{each-earns}
-use Rattle.ratio.proofs.VerdictLaws.{room, no-graph, found, none, SearchForIdle, for-idle, idle-found, copied-front, copied-rest}
+use Rattle.ratio.proofs.RatioAnswerLaws.{room, no-graph, found, none, SearchForIdle, for-idle, idle-found, copied-front, copied-rest}
 use Rattle.ratio.proofs.improve.beyond.Statement.{statement}
 use Rattle.ratio.proofs.improve.beyond.Tie as tie
 

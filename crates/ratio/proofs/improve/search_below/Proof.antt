@@ -14,7 +14,7 @@ use Rattle.integers.proofs.Machine.{small, back, carry}
 use Rattle.graph.specs.Answer.{SearchAnswered}
 use Rattle.ratio.proofs.Bounds.{summed}
 use Rattle.ratio.proofs.TurnLaws.{p-small, q-small, never, better, done, again-settled}
-use Rattle.ratio.proofs.VerdictLaws.{coded}
+use Rattle.ratio.proofs.RatioAnswerLaws.{coded}
 use Rattle.ratio.proofs.improve.search_below.Statement.{statement}
 use Rattle.ratio.proofs.improve.search_below.Tie as tie
 
