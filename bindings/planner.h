@@ -2,10 +2,10 @@
  * The proved planner for double-priced timed sheets, for C (C99 and later) and C++.
  *
  * A sheet is a small timed automaton written as bytes. planner_check tells whether bytes are a
- * sheet, planner_step takes one step of it, planner_plan finds the least cost per reward that a
- * repeating schedule can come to, and a lasso of corner points whose cycle has it. docs/SHEET.md
- * says what these are. The functions are those of crates/exports/src/lib.rt, whose contracts are
- * proved; this file only declares them.
+ * sheet, planner_step takes one step of it, planner_plan finds the least cost per reward of a cycle
+ * of corner points, which no repeating schedule undercuts, and a lasso whose cycle has it.
+ * docs/SHEET.md says what these are. The functions are those of crates/exports/src/lib.rt, whose
+ * contracts are proved; this file only declares them.
  *
  * LINKING
  *   `rt staticlib exports` proves the planner and writes target/staticlib/libexports.a, for
@@ -20,7 +20,7 @@
  *   - What one pointer lends overlaps with nothing that another lends.
  *   - During the call nothing else writes to the sheet, and nothing else reads or writes the rest.
  *     No pointer is kept after the call: there is nothing to release.
- *   These are all the conditions: every sheet, node, code and count is answered, and every call
+ *   These, and room on the stack (below), are all the conditions: every sheet, node, code and count is answered, and every call
  *   returns.
  *
  * WHAT A CALL GIVES

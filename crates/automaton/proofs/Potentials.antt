@@ -6,11 +6,11 @@ use Prim.Native.Nat.{ℕ, _+_}
 use native.Mathlib.Omega.{arith}
 use lib.IntN.{ℤ, pos, _+ℤ_, _*ℤ_}
 use lib.Signed.{_≤ℤ_}
-use Rattle.integers.proofs.Parts.{add-parts, ext, le-of, le-parts}
+use Rattle.integers.proofs.Parts.{ext, le-of, le-parts}
 use Rattle.automaton.specs.Priced.{Priced}
 use Rattle.automaton.specs.Walks.{Walk, Reachable, ReachableCycle}
 use Rattle.automaton.specs.Weights.{weight, Feasible, Potential}
-use Rattle.automaton.proofs.Walks.{walk-nil, walk-one, walk-append, walk-holds, reach-start, reach-step}
+use Rattle.automaton.proofs.Walks.{walk-one, walk-append, walk-holds, reach-start, reach-step}
 use Rattle.automaton.proofs.Weights.{weight-zero, weight-+, weight-ratio}
 use Rattle.automaton.proofs.Falls.{Falls, falls-refl, falls-chain, falls-loop, falls-least}
 

@@ -9,7 +9,7 @@ use lib.ListN.{length}
 use lib.Signed.{_≤ℤ_}
 use Rattle.integers.proofs.Parts.{up, dn, ext, mul-parts, neg-up, neg-dn}
 use Rattle.automaton.specs.Priced.{Priced}
-use Rattle.automaton.specs.Walks.{Walk, ReachableCycle}
+use Rattle.automaton.specs.Walks.{ReachableCycle}
 use Rattle.automaton.specs.Weights.{weight, Potential}
 use Rattle.walks.specs.Walk as Graph
 use Rattle.walks.specs.Walk.{at}

@@ -1,13 +1,13 @@
 -- Signed machine words: what fits, and what is read back.
 use mathlib.Core.Path.{_≡_, ap, sym, subst, _∙_}
-use Prim.Native.Nat.{ℕ, _+_, _^_, _≤_, _<_}
+use Prim.Native.Nat.{ℕ, _^_, _≤_, _<_}
 use native.Mathlib.Omega.{arith}
 use borrow.Author.Needs.{sfits-of}
-use lib.IntN.{ℤ, pos, negsuc, natAbs, _+ℤ_}
+use lib.IntN.{ℤ, natAbs}
 use mir.Syntax.{Width, w16, w64}
-use mir.Val.{SFits, hbits, toZ, ofZ}
+use mir.Val.{SFits, toZ, ofZ}
 use mir.ValLaws.{toZ-ofZ}
-use Rattle.integers.proofs.Parts.{up, dn, abs-parts, mag-below, add-parts}
+use Rattle.integers.proofs.Parts.{abs-parts, mag-below}
 
 -- a range, carried over an equation
 pub carry : {w : Width} {x y : ℤ} → SFits w y → x ≡ y → SFits w x

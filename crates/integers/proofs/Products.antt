@@ -1,10 +1,10 @@
 -- Products of integers: distributivity, absolute values, multiples by a natural number.
-use mathlib.Core.Path.{_≡_, refl, sym, ap, ap₂, _∙_}
+use mathlib.Core.Path.{_≡_, refl, sym, ap, _∙_}
 use Prim.Native.Nat.{ℕ, suc, _+_, _*_, _≤_, _<_}
 use native.Mathlib.Omega.{arith}
 use native.Mathlib.Nat.{mul-zero, mul-add, mul-suc, mul-left-comm, mul-le-mul-left}
 use native.Mathlib.Decide.{decLe}
-use lib.IntN.{ℤ, pos, negsuc, negℤ, natAbs, _+ℤ_, _*ℤ_, *ℤ-comm, sucℤ-*ℤ}
+use lib.IntN.{ℤ, pos, negsuc, negℤ, natAbs, _+ℤ_, _*ℤ_, sucℤ-*ℤ}
 use lib.Signed.{_≤ℤ_}
 use Rattle.integers.proofs.Parts.{up, dn, abs-parts, add-parts, mul-parts, neg-up, neg-dn, ext, le-of, le-parts}
 

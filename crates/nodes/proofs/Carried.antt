@@ -4,11 +4,10 @@ use mathlib.Core.List.{List, [], _∷_}
 use mathlib.Core.Option.{Option, none, some, Option·map}
 use Prim.Native.Nat.{ℕ}
 use native.Mathlib.Omega.{arith}
-use lib.IntN.{ℤ, _+ℤ_}
-use lib.Signed.{_≤ℤ_}
+use lib.IntN.{ℤ}
 use Rattle.automaton.specs.Priced.{Priced, joined, andThen, chain}
 use Rattle.automaton.specs.Walks.{Walk, Reachable, ReachableCycle}
-use Rattle.automaton.specs.Weights.{weight, Feasible, Potential}
+use Rattle.automaton.specs.Weights.{Feasible, Potential}
 use Rattle.automaton.proofs.Chains.{some-inj}
 use Rattle.automaton.proofs.Walks.{walk-holds}
 

@@ -27,13 +27,12 @@ use Rattle.sheet.specs.declared.Edge.{Edge}
 use Rattle.sheet.specs.declared.Sheet.{Sheet}
 use Rattle.sheet.proofs.AcceptedLaws.{header}
 use Rattle.sheet.proofs.DecodeLaws.{filled-at}
-use Rattle.nodes.specs.Numbers.{Layout, firstLayout, number, nodeOf, isNumber, stepBy}
+use Rattle.nodes.specs.Numbers.{Layout, number, nodeOf, isNumber, stepBy}
 use Rattle.nodes.specs.Meaning.{meaning}
 use Rattle.nodes.specs.Decoded.{fewClocks, guardOf, boundIn, lowerIn, upperIn, locationIn, edgeIn, decodedMeaning, alone}
 use Rattle.nodes.proofs.Carried.{named}
-use Rattle.nodes.proofs.NumberLaws.{node-there}
-use Rattle.nodes.proofs.AgreeLaws.{Agree, number-steps-agree}
-use Rattle.nodes.proofs.CheckedLaws.{guard-value, sound, room}
+use Rattle.nodes.proofs.AgreeLaws.{Agree}
+use Rattle.nodes.proofs.CheckedLaws.{guard-value}
 
 clock-byte : (kind : Kind) (s : List ℕ) (at b d j : ℕ) → j < 3 → Option·getD (fieldAt kind s at (b + j)) d ≡ getD (clockBytes kind s at b d) j 0
 clock-byte kind s at b d zero h = ap (λ (x : ℕ). Option·getD (fieldAt kind s at x) d) (add-zero b)

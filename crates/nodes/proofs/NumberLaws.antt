@@ -4,8 +4,8 @@ use mathlib.Core.Bool.{true}
 use mathlib.Core.Option.{some, Option·map}
 use Prim.Native.Nat.{ℕ, _^_, _≤_, _<_}
 use native.Mathlib.Omega.{arith}
-use borrow.Author.Tests.{ltb-true, eqb-true, eq-eqb}
-use lib.Dec.{ltb, eqb}
+use borrow.Author.Tests.{eqb-true, eq-eqb}
+use lib.Dec.{eqb}
 use lib.IntN.{ℤ, pos, _*ℤ_}
 use lib.Signed.{_≤ℤ_}
 use mathlib.Core.List.{List}
@@ -18,7 +18,7 @@ use Rattle.automaton.specs.Weights.{weight, Feasible, Potential}
 use Rattle.automaton.specs.Runs.{State, Member, run, startState}
 use Rattle.automaton.specs.Loops.{NoLoopBelow}
 use Rattle.automaton.proofs.Tests.{&&-left, &&-right, &&-intro}
-use Rattle.automaton.proofs.Codes.{step-cases, edge-needs, unit-or-move}
+use Rattle.automaton.proofs.Codes.{unit-or-move}
 use Rattle.automaton.proofs.Nodes.{Proper, proper-of, class-small, corner-small, whole-small}
 use Rattle.automaton.proofs.Reached.{start-is-node, step-to-node}
 use Rattle.automaton.proofs.Comparison.{no-loop-below, run-weighs}

@@ -2,9 +2,7 @@
 -- through the nodes of the lasso, with its costs and rewards.
 use mathlib.Core.Path.{_≡_}
 use mathlib.Core.List.{List}
-use mathlib.Core.Option.{Option}
 use Prim.Native.Nat.{ℕ}
-use Rattle.automaton.specs.Priced.{Priced}
 use Rattle.automaton.specs.Walks.{Reachable}
 use Rattle.automaton.proofs.Walks.{reach-start, reach-walk}
 use Rattle.step.specs.Step.{asked}
