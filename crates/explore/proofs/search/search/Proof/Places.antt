@@ -2,7 +2,6 @@
 use borrow.Author.Needs.{needs}
 use native.Mathlib.Omega.{arith}
 use Prim.Native.Nat.{ℕ, _-_, _/_, _%_, _<_}
-use mathlib.Core.Option.{Option}
 use mathlib.Core.Path.{_≡_, refl, sym, ap, subst, _∙_}
 use mathlib.Core.List.{List}
 use denote.Ref.{now}
@@ -11,15 +10,14 @@ use mir.Val.{toZ, ofZ}
 use mir.ValLaws.{toZ-ofZ}
 use lib.IntN.{ℤ}
 use lib.ListN.{getD, set}
-use Rattle.automaton.specs.Priced.{Priced}
 use Rattle.sheet.specs.declared.Edge.{Edge}
 use Rattle.sheet.specs.declared.Sheet.{Sheet}
 use Rattle.sheet.specs.Decoded.{blankEdge, blankLocation}
-use Rattle.nodes.specs.Numbers.{firstLayout, stepBy, startNumber}
-use Rattle.nodes.specs.Decoded.{decodedMeaning, locationIn, edgeIn}
+use Rattle.nodes.specs.Decoded.{locationIn, edgeIn}
 use Rattle.region.specs.Answers.{answered}
 use Rattle.step.proofs.SheetLaws.{any-default}
 use Rattle.walks.specs.Walk.{at}
+use Rattle.contract.specs.Explored.{stepRead, startRead}
 use Rattle.explore.specs.Buffers.{GraphBuffers, graphBuffers, HasRoom}
 use Rattle.explore.proofs.CountLaws.{Counts, counts, edge-place}
 use Rattle.explore.proofs.SearchLaws.{Searched, seeded}
@@ -28,12 +26,9 @@ use Rattle.explore.proofs.EnterLaws.{Taken}
 use Rattle.explore.proofs.LengthLaws.{Same, long-kept}
 use Rattle.explore.proofs.search.search.Tie as tie
 
-abbrev pub step : Sheet → ℕ → ℕ → Option (Priced ℕ)
-step sheet = stepBy firstLayout (decodedMeaning sheet)
-
 abbrev pub Inv-loop : tie.InvT-loop
 Inv-loop sheet nodes₀ sorted₀ order₀ tree₀ from₀ to₀ code₀ cost₀ reward₀ edges locations hints₀ n₀ m₀ t₀ nodes sorted order tree from to code cost reward hints n m t =
-    Searched (step sheet) (startNumber firstLayout (decodedMeaning sheet))
+    Searched (stepRead sheet) (startRead sheet)
     (graphBuffers nodes₀ sorted₀ order₀ tree₀ from₀ to₀ code₀ cost₀ reward₀) (graphBuffers nodes sorted order tree from to code cost reward) n m t
     × Same (graphBuffers nodes₀ sorted₀ order₀ tree₀ from₀ to₀ code₀ cost₀ reward₀) (graphBuffers nodes sorted order tree from to code cost reward)
 
@@ -123,7 +118,7 @@ module _ (c : tie.After-step-at Inv-loop μ-loop) where
   abbrev pub t : ℕ
   t = L c .loop .t
 
-  pub told : c .step-at .result ≡ answered (step sheet (at (here (L c) .node) (t / 34)) (t % 34))
+  pub told : c .step-at .result ≡ answered (stepRead sheet (at (here (L c) .node) (t / 34)) (t % 34))
   told =
       let l = L c in
       let b = l .before .by-byte in
@@ -138,7 +133,7 @@ module _ (c : tie.After-step-at Inv-loop μ-loop) where
         here-is = λ high. location-is ∙ ap (locationIn sheet) (p .ensures .1 .1 high);
       })
 
-  pub turn : Taken (step sheet) (startNumber firstLayout (decodedMeaning sheet)) (entry (S (L c))) (here (L c)) (L c .loop .n) (L c .loop .m)
+  pub turn : Taken (stepRead sheet) (startRead sheet) (entry (S (L c))) (here (L c)) (L c .loop .n) (L c .loop .m)
       (t / 34) (t % 34) t (c .step-at .result)
   turn =
       let k = numbers (Q c) in
