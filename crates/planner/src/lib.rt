@@ -39,7 +39,8 @@ fn ask(sheet: &[u8], nodes: &mut [u32], potentials: &mut [i64], steps: &mut [u16
     sheets::plan_read(read, nodes, potentials, steps)
 }
 
-// The nodes' numbers are written to nodes, rising, their potentials to potentials, and the codes of stem and cycle to steps.
+// The answer to questions 1 to 14. The nodes' numbers are written to nodes, rising, their potentials to potentials, and the codes of stem and
+// cycle to steps; refusals 12 to 14 clear all three.
 pub fn plan(sheet: &[u8], nodes: &mut [u32], potentials: &mut [i64], steps: &mut [u16]) -> Answer
     ensures { λ r. ⌜ Planned (now (sheet .entry)) (lentBuffers (now (nodes .entry)) (now (potentials .entry)) (now (steps .entry)))
         (lentBuffers (now (nodes .exit)) (now (potentials .exit)) (now (steps .exit))) (answerOf r) ⌝ }
