@@ -74,9 +74,9 @@ pub record IsStep (step : ℕ → ℕ → Option (Priced ℕ)) (b : GraphBuffers
       ≡ some (record { to = at (b .node) (at (b .to) e); cost = atℤ (b .cost) e; reward = at (b .reward) e })
 
 module _ (step : ℕ → ℕ → Option (Priced ℕ)) (start : ℕ) where
-  -- 2,048 nodes and one more: a turn comes whose step leads to none of the 2,048. The arcs are the allowed steps of the turns before it, each of them
-  -- and no other. This fixes every entry, turn by turn: an allowed step is the next arc, to a node that stands already or to the next node, and the
-  -- first step to a node for which there is no room stops.
+  -- 2,048 nodes and one more: a turn comes whose step leads to none of the 2,048. The arcs are the allowed steps of the turns before it, each of
+  -- them and no other. A reader can see that this leaves no entry open (it is not proved), turn by turn: an allowed step is the next arc, to a node
+  -- that stands already or to the next node, and the first step to a node for which there is no room stops.
   pub record Stopped (before after : GraphBuffers) : Type 0 where
     pub overfull : Overfull step start (after .node)
     pub first : at (after .node) 0 ≡ start
