@@ -1,6 +1,6 @@
 //! The exported functions behind safe ones: the only module with `unsafe`.
 
-use crate::lent::{PlanNumbers, StepNumbers};
+use crate::calls::{PlanNumbers, StepNumbers};
 
 /// The same declarations as in `bindings/planner.h`, which says what each call needs.
 mod raw {

@@ -19,9 +19,9 @@
 #![deny(missing_docs)]
 #![deny(unsafe_code)]
 
+pub mod calls;
 #[allow(unsafe_code)]
 mod exported;
-pub mod lent;
 mod plan;
 mod refusal;
 
@@ -57,7 +57,7 @@ pub struct Step {
 /// assert_eq!(planner::check(&[]).unwrap_err().number(), 2);
 /// ```
 pub fn check(sheet: &[u8]) -> Result<(), Refusal> {
-    Refusal::of(lent::check(sheet))
+    Refusal::of(calls::check(sheet))
 }
 
 /// Takes a step from a node of a sheet, the start being node 0: questions 2 to 11, then 15 and 16.
@@ -70,7 +70,7 @@ pub fn check(sheet: &[u8]) -> Result<(), Refusal> {
 /// # Ok::<(), planner::Refusal>(())
 /// ```
 pub fn step(sheet: &[u8], node: u32, code: u16) -> Result<Step, Refusal> {
-    let mut numbers = lent::StepNumbers::default();
-    Refusal::of(lent::step(sheet, node, code, &mut numbers))?;
+    let mut numbers = calls::StepNumbers::default();
+    Refusal::of(calls::step(sheet, node, code, &mut numbers))?;
     Ok(Step { node: numbers.number, cost: numbers.cost, reward: numbers.reward })
 }

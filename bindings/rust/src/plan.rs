@@ -1,6 +1,6 @@
 //! Plans, in buffers that are kept from one to the next.
 
-use crate::lent::{self, PlanNumbers};
+use crate::calls::{self, PlanNumbers};
 use crate::{Refusal, LEAST_ENTRIES};
 
 /// The buffers that plans are written to. One planner can plan any number of sheets.
@@ -49,7 +49,7 @@ impl Planner {
     pub fn plan(&mut self, sheet: &[u8]) -> Result<Plan<'_>, Refusal> {
         let Planner { nodes, potentials, steps } = self;
         let mut numbers = PlanNumbers::default();
-        Refusal::of(lent::plan(sheet, nodes, potentials, steps, &mut numbers))?;
+        Refusal::of(calls::plan(sheet, nodes, potentials, steps, &mut numbers))?;
         let PlanNumbers { p, q, n, s, m } = numbers;
         // n, s and m count entries of the buffers
         let (n, s, m) = (n as usize, s as usize, m as usize);

@@ -1,6 +1,6 @@
 //! Bench, the sheet of eighteen bytes, and refusals, by every function.
 
-use planner::lent::{self, PlanNumbers, StepNumbers};
+use planner::calls::{self, PlanNumbers, StepNumbers};
 use planner::{check, step, Planner, Step, LEAST_ENTRIES, LONGEST_SHEET, MOVE, UNIT};
 
 /// One location, clock ≤ 2, rate 1; one edge, clock ≥ 1, reset, cost 5, reward 2.
@@ -32,6 +32,7 @@ fn the_lasso_is_walked_and_has_the_ratio() {
     let (knot, ..) = walk(0, plan.stem);
     let (end, cost, reward) = walk(knot, plan.cycle);
     assert_eq!(end, knot);
+    assert!(reward > 0);
     assert_eq!(cost * plan.q, reward * plan.p);
     assert!(plan.cycle.contains(&UNIT));
 }
@@ -65,13 +66,13 @@ fn a_refusal_says_its_question() {
 #[test]
 fn every_number_is_written_by_a_refused_call() {
     let mut numbers = StepNumbers { number: 7, cost: 7, reward: 7 };
-    assert_eq!(lent::step(&BENCH, 0, 34, &mut numbers), 16);
+    assert_eq!(calls::step(&BENCH, 0, 34, &mut numbers), 16);
     assert_eq!(numbers, StepNumbers::default());
     for (sheet, refusal) in [(&BENCH[..17], 5), (&NO_EDGE[..], 13)] {
         let mut numbers = PlanNumbers { p: 7, q: 7, n: 7, s: 7, m: 7 };
         let (mut nodes, mut potentials) = ([7; LEAST_ENTRIES], [7; LEAST_ENTRIES + 1]);
         let mut steps = [7; LEAST_ENTRIES];
-        let answer = lent::plan(sheet, &mut nodes, &mut potentials, &mut steps, &mut numbers);
+        let answer = calls::plan(sheet, &mut nodes, &mut potentials, &mut steps, &mut numbers);
         assert_eq!((answer, numbers), (refusal, PlanNumbers::default()));
         let entry = if refusal < 12 { 7 } else { 0 };
         assert_eq!(nodes, [entry as u32; LEAST_ENTRIES]);

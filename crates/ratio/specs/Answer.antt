@@ -26,7 +26,8 @@ pub record RatioOf (cost : List ℤ) (reward c : List ℕ) (p : ℤ) (q : ℕ) :
 
 -- the first k entries of cycle are the arcs of a simple cycle with the ratio p / q, in order, and no cycle is below it; the first n of potential
 -- are the nodes' potentials at that ratio; nothing else is written
-pub record RatioFound (F T : List ℕ) (cost : List ℤ) (reward : List ℕ) (n : ℕ) (p : ℤ) (q k : ℕ) (potential potential' : List ℤ) (cycle cycle' : List ℕ) : Type 0 where
+pub record RatioFound (F T : List ℕ) (cost : List ℤ) (reward : List ℕ) (n : ℕ) (p : ℤ) (q k : ℕ)
+    (potential potential' : List ℤ) (cycle cycle' : List ℕ) : Type 0 where
   pub short : k ≤ n
   pub attained : SimpleCycle F T (length F) (take k cycle')
   pub ratio : RatioOf cost reward (take k cycle') p q

@@ -6,11 +6,11 @@ use crate::fault::Planner;
 use crate::hexadecimal;
 use crate::judge_plan::{judge_plan, same, Verdict};
 use crate::judge_step::{expected_step, Answer};
-use crate::lent::step_numbers;
+use crate::marked::step_numbers;
 use crate::random::Random;
 use crate::sha256::digest;
 use crate::sheet::read;
-use planner::lent::StepNumbers;
+use planner::calls::StepNumbers;
 
 pub struct Row {
     pub sheet: Vec<u8>,

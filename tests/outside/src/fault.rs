@@ -1,9 +1,9 @@
 //! The library's answers, with a planted fault between the library and the comparison if asked.
 
 use crate::explore::MOST_NODES;
-use crate::lent::Buffers;
+use crate::marked::Buffers;
 use crate::planted::{accepted, refused};
-use planner::lent::{self, PlanNumbers, StepNumbers};
+use planner::calls::{self, PlanNumbers, StepNumbers};
 
 #[derive(Clone, Copy, Debug, PartialEq)]
 pub enum Fault {
@@ -81,7 +81,7 @@ pub struct Planner {
 
 impl Planner {
     pub fn check(&self, sheet: &[u8]) -> u8 {
-        match (self.fault, lent::check(sheet)) {
+        match (self.fault, calls::check(sheet)) {
             (Some(Fault::Check), 8) => 9,
             (_, refusal) => refusal,
         }
@@ -91,7 +91,7 @@ impl Planner {
         let swapped = self.fault == Some(Fault::Step) && (code == 32 || code == 33);
         let code = if swapped { 65 - code } else { code };
         let before = *numbers;
-        let refusal = lent::step(sheet, node, code, numbers);
+        let refusal = calls::step(sheet, node, code, numbers);
         match (self.fault, refusal) {
             (Some(Fault::Number), 15) => return 16,
             (Some(Fault::Stale), 2..) => numbers.cost = before.cost,
@@ -101,7 +101,7 @@ impl Planner {
     }
 
     pub fn lasso_step(&self, sheet: &[u8], node: u32, code: u16, numbers: &mut StepNumbers) -> u8 {
-        let refusal = lent::step(sheet, node, code, numbers);
+        let refusal = calls::step(sheet, node, code, numbers);
         if self.fault == Some(Fault::Prices) {
             (numbers.cost, numbers.reward) = (numbers.reward, numbers.cost);
         }
@@ -111,7 +111,7 @@ impl Planner {
     pub fn plan(&self, sheet: &[u8], buffers: &mut Buffers, numbers: &mut PlanNumbers) -> u8 {
         let before = *numbers;
         let Buffers { nodes, potentials, steps } = buffers;
-        let refusal = lent::plan(sheet, nodes, potentials, steps, numbers);
+        let refusal = calls::plan(sheet, nodes, potentials, steps, numbers);
         match (self.fault, refusal) {
             (None, _) => refusal,
             (Some(fault), 0) => accepted(fault, sheet, buffers, numbers),

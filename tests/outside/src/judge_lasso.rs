@@ -2,10 +2,10 @@
 
 use crate::fault::Planner;
 use crate::judge_plan::{same, Verdict};
-use crate::lent::Buffers;
+use crate::marked::Buffers;
 use crate::region::{node_of, step};
 use crate::sheet::Sheet;
-use planner::lent::{PlanNumbers, StepNumbers};
+use planner::calls::{PlanNumbers, StepNumbers};
 use std::collections::HashSet;
 
 /// What no step writes.

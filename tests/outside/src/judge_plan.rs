@@ -4,11 +4,11 @@ use crate::expected::{weighted, Expected};
 use crate::explore::{Graph, MOST_NODES};
 use crate::fault::Planner;
 use crate::judge_lasso::judge_lasso;
-use crate::lent::{self, Buffers};
+use crate::marked::{self, Buffers};
 use crate::random::Random;
 use crate::region::UNIT;
 use crate::weights::least_weights;
-use planner::lent::PlanNumbers;
+use planner::calls::PlanNumbers;
 
 pub type Verdict<T> = Result<T, String>;
 
@@ -56,9 +56,9 @@ fn all_zero(what: &str, zero: bool) -> Verdict<()> {
 fn judge_short(planner: &Planner, bytes: &[u8], random: &mut Random) -> Verdict<()> {
     let mut lengths = [MOST_NODES; 3].map(|least| least + random.below(2) * random.below(100));
     lengths[random.below(3)] = random_short(random, MOST_NODES);
-    let mut buffers = lent::buffers(random, lengths);
+    let mut buffers = marked::buffers(random, lengths);
     let before = buffers.clone();
-    let mut numbers = lent::plan_numbers(random);
+    let mut numbers = marked::plan_numbers(random);
     same("short buffer", planner.plan(bytes, &mut buffers, &mut numbers), 1)?;
     same("short buffer: the numbers", numbers, PlanNumbers::default())?;
     untouched("short buffer", &buffers, &before)
@@ -155,9 +155,9 @@ pub fn judge_plan(
     judge_short(planner, bytes, random)?;
     let longer = random.percent(50);
     let lengths = [0; 3].map(|_| MOST_NODES + if longer { 1 + random.below(1500) } else { 0 });
-    let mut buffers = lent::buffers(random, lengths);
+    let mut buffers = marked::buffers(random, lengths);
     let before = buffers.clone();
-    let mut numbers = lent::plan_numbers(random);
+    let mut numbers = marked::plan_numbers(random);
     let refusal = planner.plan(bytes, &mut buffers, &mut numbers);
     same("refusal of the plan", refusal, expected.refusal)?;
     if refusal == 0 {

@@ -3,12 +3,12 @@
 use crate::expected::Expected;
 use crate::fault::Planner;
 use crate::judge_plan::{same, Verdict};
-use crate::lent::step_numbers;
+use crate::marked::step_numbers;
 use crate::random::Random;
 use crate::region::{node_of, step, Node};
 use crate::sheet::Sheet;
 use crate::tally::Tally;
-use planner::lent::StepNumbers;
+use planner::calls::StepNumbers;
 
 /// The refusal, and the new node's number, the cost and the reward.
 pub type Answer = (u8, StepNumbers);

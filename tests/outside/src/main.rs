@@ -16,7 +16,7 @@ mod judge_lasso;
 mod judge_plan;
 mod judge_step;
 mod kinds;
-mod lent;
+mod marked;
 mod nths;
 mod planted;
 mod program;

@@ -4,9 +4,9 @@ use crate::expected::{expect, weighted};
 use crate::explore::MOST_NODES;
 use crate::fault::Fault;
 use crate::judge_plan::divisor;
-use crate::lent::Buffers;
+use crate::marked::Buffers;
 use crate::weights::least_weights;
-use planner::lent::PlanNumbers;
+use planner::calls::PlanNumbers;
 
 fn raise_ratio(numbers: &mut PlanNumbers, by: i64) {
     let (p, q) = (numbers.p + by, numbers.q);

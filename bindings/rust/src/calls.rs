@@ -38,7 +38,7 @@ pub fn check(sheet: &[u8]) -> u8 {
 /// Questions 2 to 11, then 15 and 16.
 ///
 /// ```
-/// use planner::lent::{step, StepNumbers};
+/// use planner::calls::{step, StepNumbers};
 ///
 /// let mut numbers = StepNumbers { number: 7, cost: 7, reward: 7 };
 /// assert_eq!(step(&[], 0, 33, &mut numbers), 2);
@@ -55,7 +55,7 @@ pub fn step(sheet: &[u8], node: u32, code: u16, numbers: &mut StepNumbers) -> u8
 /// to no buffer, 12 to 14 set every entry of all three to 0.
 ///
 /// ```
-/// use planner::lent::{plan, PlanNumbers};
+/// use planner::calls::{plan, PlanNumbers};
 ///
 /// let mut numbers = PlanNumbers { p: 7, q: 7, n: 7, s: 7, m: 7 };
 /// let mut nodes = [7; 2047];

@@ -2,7 +2,7 @@
 //! be seen.
 
 use crate::random::Random;
-use planner::lent::{PlanNumbers, StepNumbers};
+use planner::calls::{PlanNumbers, StepNumbers};
 
 /// The three buffers lent to a plan.
 #[derive(Clone, PartialEq)]
