@@ -5,7 +5,7 @@ use mathlib.Core.List.{List}
 use Prim.Native.Nat.{ℕ, _≤_, _<_}
 use borrow.Author.Tests.{eqb-true, eq-eqb, ne-eqb, le-leb, lt-leb, lt-ltb, le-ltb}
 use lib.Dec.{eqb}
-pub use Rattle.automaton.specs.Steps.{edgeStep, step}
+use Rattle.automaton.specs.Steps.{edgeStep, step}
 use Rattle.automaton.proofs.Tests.{by-bool}
 use Rattle.sheet.specs.Questions.{checkOf}
 use Rattle.sheet.specs.Decoded.{blankEdge, readOf}

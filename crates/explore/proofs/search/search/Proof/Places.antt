@@ -15,7 +15,7 @@ use Rattle.sheet.specs.declared.Sheet.{Sheet}
 use Rattle.sheet.specs.Decoded.{blankEdge, blankLocation}
 use Rattle.nodes.specs.Decoded.{locationIn, edgeIn}
 use Rattle.region.specs.Answers.{answered}
-use Rattle.step.proofs.SheetLaws.{any-default}
+use Rattle.integers.proofs.Lists.{any-default}
 use Rattle.walks.specs.Walk.{at}
 use Rattle.contract.specs.Explored.{stepRead, startRead}
 use Rattle.explore.specs.Buffers.{GraphBuffers, graphBuffers, HasRoom}
