@@ -3,6 +3,7 @@
 // Each graph is searched with three weights; the answers and the buffers of both have to agree.
 #include <algorithm>
 #include <chrono>
+#include <cmath>
 #include <cstddef>
 #include <cstdint>
 #include <cstdio>
@@ -107,7 +108,8 @@ template <class F> static double mean(F f) {
     return passed / calls * 1e6;
 }
 
-static void compare(const Graph &g, Coefficients k, size_t nodes) {
+// Prints a row; the ratio of the two times.
+static double compare(const Graph &g, Coefficients k, size_t nodes) {
     std::vector<int64_t> p(2048, 7), q(2048, 7);
     std::vector<size_t> c(2048, 7), d(2048, 7);
     size_t m = g.from.size(), r = 0, s = 0;
@@ -130,15 +132,31 @@ static void compare(const Graph &g, Coefficients k, size_t nodes) {
     if (r == 0) std::snprintf(answer, sizeof answer, "potentials");
     else std::snprintf(answer, sizeof answer, "cycle of %zu", r);
     std::printf("| %zu | (%d, %d, %d) | %s | %.0f | %.0f | %.2f |\n", m, int(k.a), int(k.b), int(k.c), answer, ours, theirs, ours / theirs);
+    return ours / theirs;
 }
 
-int main() {
+static void print_mean(const std::vector<double> &ratios) {
+    double sum = 0, squares = 0;
+    for (double ratio : ratios) sum += std::log(ratio);
+    double mean = sum / double(ratios.size());
+    for (double ratio : ratios) squares += (std::log(ratio) - mean) * (std::log(ratio) - mean);
+    double deviation = std::sqrt(squares / double(ratios.size() - 1));
+    auto [least, largest] = std::minmax_element(ratios.begin(), ratios.end());
+    std::printf("\n%zu rows: geometric mean %.2f, geometric standard deviation %.2f, %.2f to %.2f\n", ratios.size(), std::exp(mean),
+                std::exp(deviation), *least, *largest);
+}
+
+// The argument is the first line: the date and the commit.
+int main(int count, char **words) {
     const size_t nodes = 2000;
+    std::vector<double> ratios;
+    std::printf("%s\n\n", count > 1 ? words[1] : "");
     std::printf("| arcs | coefficients | answer | proved, µs | C++, µs | proved / C++ |\n|---|---|---|---|---|---|\n");
     for (size_t arcs : {2000, 4000, 8000, 16000, 30000, 60000}) {
         Graph g = random_graph(nodes, arcs, unsigned(arcs));
-        compare(g, {1, 10000, 0}, nodes); // no cycle is below the ratio -10000
-        compare(g, {1, 0, 0}, nodes);     // a cycle of negative cost
-        compare(g, {0, 0, -1}, nodes);    // any cycle
+        ratios.push_back(compare(g, {1, 10000, 0}, nodes)); // no cycle is below the ratio -10000
+        ratios.push_back(compare(g, {1, 0, 0}, nodes));     // a cycle of negative cost
+        ratios.push_back(compare(g, {0, 0, -1}, nodes));    // any cycle
     }
+    print_mean(ratios);
 }
