@@ -3,9 +3,9 @@
  *
  * A sheet is a small timed automaton written as bytes. planner_check tells whether bytes are a
  * sheet, planner_step takes one step of it, planner_plan finds the least cost per reward of a cycle
- * of corner points, which no repeating schedule undercuts, and a lasso whose cycle has it.
- * docs/SHEET.md says what these are. The functions are those of crates/exports/src/lib.rt, whose
- * contracts are proved; this file only declares them.
+ * of corner points, which no repeating schedule undercuts that waits in fractions of a unit, and a
+ * lasso whose cycle has it. docs/SHEET.md says what these are. The functions are those of
+ * crates/exports/src/lib.rt, whose contracts are proved; this file only declares them.
  *
  * LINKING
  *   `rt staticlib exports` proves the planner and writes target/staticlib/libexports.a, for

@@ -2,8 +2,8 @@
 //!
 //! A sheet is a small timed automaton written as bytes. [`check`] tells whether bytes are a sheet,
 //! [`step`] takes one step of it, and [`Planner::plan`] finds the least cost per reward of a cycle of
-//! corner points, which no repeating schedule undercuts, and a lasso whose cycle has it.
-//! `docs/SHEET.md` says what these are.
+//! corner points, which no repeating schedule undercuts that waits in fractions of a unit, and a
+//! lasso whose cycle has it. `docs/SHEET.md` says what these are.
 //!
 //! ```
 //! let bench = [1, 1, 1, 1, 5, 1, 0, 5, 15, 0, 0, 0, 5, 0, 2, 0, 1, 2];

@@ -4,7 +4,8 @@ ghost use Prim.Native.Nat.{_+_, _<_, _≤_};
 ghost use lib.ListN.{length};
 ghost use Rattle.explore.specs.Index.{Rising, Place, Inserted, Index, Entered};
 
-// d where v is below x, else 0, without a branch: half of the time it would be foreseen wrongly.
+// d where v is below x, else 0, without a branch: half of the time it would be foreseen wrongly. Bit 32 of the gap stands just where x is at most v,
+// and added to 2^32 - 1 it makes a mask of the 32 bits below it: all of them, or none.
 fn if_below(v: u32, x: u32, d: usize) -> usize
     requires { ⌜ d < 4294967296 ⌝ }
     ensures { λ r. ⌜ (v < x → r ≡ d) ⌝ ∗ ⌜ (x ≤ v → r ≡ 0) ⌝ }
