@@ -8,3 +8,5 @@ pub mod ArcLaws
 pub mod TurnLaws
 pub mod EnterLaws
 pub mod AnswerLaws
+pub mod OneSearch
+pub mod OneGraph
