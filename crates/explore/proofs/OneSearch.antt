@@ -1,25 +1,18 @@
--- Two searches of the same steps go the same way, arc by arc, as far as both go; and where they find as much, they leave the same buffers.
+-- Two searches of the same steps go the same way, arc by arc, as far as both go.
 use mathlib.Core.Path.{_≡_, sym, ap, subst, _∙_}
 use mathlib.Core.List.{List}
 use mathlib.Core.Option.{Option, some}
-use Prim.Native.Nat.{ℕ, zero, suc, _+_, _-_, _*_, _≤_, _<_}
+use Prim.Native.Nat.{ℕ, zero, suc, _≤_, _<_}
 use native.Mathlib.Omega.{arith}
 use native.Mathlib.Decide.{decLt}
-use lib.IntN.{pos}
-use lib.ListN.{length, drop, getD}
-use lib.Seq.{getD-drop, ext-getD}
 use Rattle.automaton.specs.Priced.{Priced}
 use Rattle.automaton.proofs.Chains.{some-inj}
 use Rattle.automaton.proofs.Tests.{by-order}
 use Rattle.walks.specs.Walk.{at, atℤ}
-use Rattle.contract.specs.Accepted.{Listed}
 use Rattle.contract.specs.Explored.{ArcOf}
-use Rattle.contract.proofs.Rising.{same-entry}
 use Rattle.explore.specs.Buffers.{GraphBuffers, found}
-use Rattle.explore.specs.Index.{Index}
 use Rattle.explore.specs.Answer.{turnOfArc}
 use Rattle.explore.proofs.SearchLaws.{Searched, up-to}
-use Rattle.explore.proofs.LengthLaws.{Same}
 
 -- where the arc d leads, by number, with its cost and reward
 abbrev pub priced : GraphBuffers → ℕ → Priced ℕ
@@ -40,7 +33,7 @@ pub record SameNode (b b' : GraphBuffers) (n' v : ℕ) : Type 0 where
 mirrored : {b b' : GraphBuffers} {d : ℕ} → SameArc b b' d → SameArc b' b d
 mirrored s = record { from = sym (s .from); to = sym (s .to); code = sym (s .code); leads = sym (s .leads) }
 
--- a node of the tree was discovered by an arc before e, or is the start, or neither
+-- the node v is the start or was discovered by an arc before e, or it was not
 by-age : {X : Type 0} (tree : List ℕ) (e v : ℕ) → ((0 < v → at tree v < e) → X) → (0 < v → e ≤ at tree v → X) → X
 by-age tree e v old new = elim (decLt 0 v) [
   | yes p ↦ elim (decLt (at tree v) e) [ yes k ↦ old (λ q. k) | no k ↦ new p (omega arith) ]
@@ -52,20 +45,20 @@ module _ {step : ℕ → ℕ → Option (Priced ℕ)} {start : ℕ} {before befo
     (g : Searched step start before b n m t) (g' : Searched step start before' b' n' m' t') (e : ℕ) (short : e ≤ m) (short' : e ≤ m')
     (same : (d : ℕ) → d < e → SameArc b b' d) where
   -- and so are the nodes that they discover
-  known : (v : ℕ) → v < n → (0 < v → at (b .tree) v < e) → SameNode b b' n' v
-  known v h k = elim (decLt 0 v) [
+  discovered : (v : ℕ) → v < n → (0 < v → at (b .tree) v < e) → SameNode b b' n' v
+  discovered v h k = elim (decLt 0 v) [
     | yes p ↦
         let d = at (b .tree) v in
         let s = same d (k p) in
         let to' : at (b' .to) d ≡ v = sym (s .to) ∙ g .tree .ends v h p in
         let below : v < n' = omega (arith, to', g' .steps d (omega (arith, k p)) .target) in
-        let no-later : at (b' .tree) v ≤ d = omega (arith, ap (at (b' .tree)) to', g' .tree .first d (omega (arith, k p)) (omega (arith, to'))) in
+        let early : at (b' .tree) v ≤ d = omega (arith, ap (at (b' .tree)) to', g' .tree .first d (omega (arith, k p)) (omega (arith, to'))) in
         let c = at (b' .tree) v in
-        let to : at (b .to) c ≡ v = same c (omega (arith, no-later, k p)) .to ∙ g' .tree .ends v below p in
+        let to : at (b .to) c ≡ v = same c (omega (arith, early, k p)) .to ∙ g' .tree .ends v below p in
         record {
           below = below;
           number = ap (at (b .node)) (sym (g .tree .ends v h p)) ∙ ap (λ (x : Priced ℕ). x .to) (s .leads) ∙ ap (at (b' .node)) to';
-          tree = λ q. omega (arith, no-later, ap (at (b .tree)) to, g .tree .first c (omega (arith, no-later, k p)) (omega (arith, to)));
+          tree = λ q. omega (arith, early, ap (at (b .tree)) to, g .tree .first c (omega (arith, early, k p)) (omega (arith, to)));
         }
     | no p ↦
         let z : v ≡ 0 = omega arith in
@@ -77,9 +70,9 @@ module _ {step : ℕ → ℕ → Option (Priced ℕ)} {start : ℕ} {before befo
   ]
 
   module _ (h : e < m) where
-    -- the source of the arc e was discovered by an earlier one
-    pub source : SameNode b b' n' (at (b .from) e)
-    source = known v in-n (λ p. by-order (at (b .tree) v) e (λ l. l)
+    -- among them is the source of the arc e
+    same-source : SameNode b b' n' (at (b .from) e)
+    same-source = discovered v in-n (λ p. by-order (at (b .tree) v) e (λ l. l)
         (λ q. absurd (omega (arith, ap (at (b .from)) q, g .tree .earlier v in-n p)))
         (λ l. absurd (omega (
           arith,
@@ -95,7 +88,7 @@ module _ {step : ℕ → ℕ → Option (Priced ℕ)} {start : ℕ} {before befo
         in-n = g .steps e h .source
 
     -- its step is allowed in the other search: if its turn has come there, it is an arc, and not one of those before e
-    pub no-later : turnOfArc b e < t' → (e < m') × (turnOfArc b' e ≤ turnOfArc b e)
+    no-later : turnOfArc b e < t' → (e < m') × (turnOfArc b' e ≤ turnOfArc b e)
     no-later l = by-order c e
         (λ k. absurd (omega (arith, same c k .from, same c k .code, a .source, a .code-is, g .by-source c e k h)))
         (λ q. (omega (arith, a .below), omega (arith, ap (at (b' .from)) q, ap (at (b' .code)) q, a .source, a .code-is)))
@@ -103,7 +96,7 @@ module _ {step : ℕ → ℕ → Option (Priced ℕ)} {start : ℕ} {before befo
       where
         a : ArcOf (found b' n' m') (at (b .from) e) (at (b .code) e)
         a = g' .complete (at (b .from) e) (at (b .code) e) (priced b e) (g .codes e h) l
-            (subst (λ (x : ℕ). step x (at (b .code) e) ≡ some (priced b e)) (source .number) (g .steps e h .sound))
+            (subst (λ (x : ℕ). step x (at (b .code) e) ≡ some (priced b e)) (same-source .number) (g .steps e h .sound))
 
         c : ℕ
         c = a .arc
@@ -115,19 +108,19 @@ module _ {step : ℕ → ℕ → Option (Priced ℕ)} {start : ℕ} {before befo
   -- a target that was known stands where it stood
   old-target : (0 < at (b .to) e → at (b .tree) (at (b .to) e) < e) → at (b .to) e ≡ at (b' .to) e
   old-target k =
-      let s = known g g' e (omega arith) (omega arith) same (at (b .to) e) (g .steps e h .target) k in
+      let s = discovered g g' e (omega arith) (omega arith) same (at (b .to) e) (g .steps e h .target) k in
       g' .distinct (at (b .to) e) (at (b' .to) e) (s .below) (g' .steps e h' .target) (sym (s .number) ∙ leads)
 
-  -- and a new one comes after all that were
-  no-higher : 0 < at (b .to) e → e ≤ at (b .tree) (at (b .to) e) → e ≤ at (b' .tree) (at (b' .to) e) → at (b .to) e < at (b' .to) e → ⊥
-  no-higher p k k' l =
+  -- and a new one is the next: a place before it was known
+  no-higher : 0 < at (b .to) e → e ≤ at (b .tree) (at (b .to) e) → at (b .to) e < at (b' .to) e → ⊥
+  no-higher p k l =
       let x = at (b .to) e in
-      let late : at (b' .tree) x < e = omega (
+      let early : at (b' .tree) x < e = omega (
         arith,
         g' .tree .rising x (at (b' .to) e) l (g' .steps e h' .target) p,
         g' .tree .first e h' (omega arith),
       ) in
-      let s = known g' g e (omega arith) (omega arith) (λ d w. mirrored (same d w)) x (omega (arith, g' .steps e h' .target)) (λ q. late) in
+      let s = discovered g' g e (omega arith) (omega arith) (λ d w. mirrored (same d w)) x (omega (arith, g' .steps e h' .target)) (λ q. early) in
       omega (arith, s .tree p)
 
 module _ {step : ℕ → ℕ → Option (Priced ℕ)} {start : ℕ} {before before' b b' : GraphBuffers} {n n' m m' t t' : ℕ}
@@ -151,7 +144,7 @@ module _ {step : ℕ → ℕ → Option (Priced ℕ)} {start : ℕ} {before befo
       code = omega (arith, turns, from)
 
       leads : priced b e ≡ priced b' e
-      leads = some-inj (sym (g .steps e h .sound) ∙ ap (λ (x : ℕ). step x (at (b .code) e)) (source g g' e (omega arith) (omega arith) same h .number)
+      leads = some-inj (sym (g .steps e h .sound) ∙ ap (λ (x : ℕ). step x (at (b .code) e)) (same-source g g' e (omega arith) (omega arith) same h .number)
           ∙ ap (λ (v : ℕ). step (at (b' .node) v) (at (b .code) e)) from ∙ ap (step (at (b' .node) (at (b' .from) e))) code ∙ g' .steps e h' .sound)
 
       number : at (b .node) (at (b .to) e) ≡ at (b' .node) (at (b' .to) e)
@@ -160,8 +153,8 @@ module _ {step : ℕ → ℕ → Option (Priced ℕ)} {start : ℕ} {before befo
       to : at (b .to) e ≡ at (b' .to) e
       to = by-age (b .tree) e (at (b .to) e) (old-target g g' e h h' same number) (λ p k. by-age (b' .tree) e (at (b' .to) e)
           (λ o. sym (old-target g' g e h' h back (sym number) o))
-          (λ p' k'. by-order (at (b .to) e) (at (b' .to) e) (λ l. absurd (no-higher g g' e h h' same number p k k' l)) (λ q. q)
-          (λ l. absurd (no-higher g' g e h' h back (sym number) p' k' k l))))
+          (λ p' k'. by-order (at (b .to) e) (at (b' .to) e) (λ l. absurd (no-higher g g' e h h' same number p k l)) (λ q. q)
+          (λ l. absurd (no-higher g' g e h' h back (sym number) p' k' l))))
 
   pub same-arcs : (e : ℕ) → e ≤ m → e ≤ m' → (d : ℕ) → d < e → SameArc b b' d
   same-arcs zero l l' d h = absurd (omega arith)
@@ -171,12 +164,12 @@ module _ {step : ℕ → ℕ → Option (Priced ℕ)} {start : ℕ} {before befo
 
   -- the nodes of the search that finds no more arcs
   pub same-nodes : m ≤ m' → (v : ℕ) → v < n → SameNode b b' n' v
-  same-nodes l v h = known g g' m (omega arith) l (same-arcs m (omega arith) l) v h (g .tree .arc v h)
+  same-nodes l v h = discovered g g' m (omega arith) l (same-arcs m (omega arith) l) v h (g .tree .arc v h)
 
   -- a search that finds more arcs goes on, from a node of the other, at a turn that has not come there
   pub goes-on : m < m' → (at (b' .from) m < n) × (t ≤ turnOfArc b' m)
   goes-on l = (
-    source g' g m (omega arith) (omega arith) same l .below,
+    same-source g' g m (omega arith) (omega arith) same l .below,
     elim (decLt (turnOfArc b' m) t) [
       | yes w ↦ absurd (omega (arith, no-later g' g m (omega arith) (omega arith) same l w .0))
       | no w ↦ omega arith
@@ -185,64 +178,3 @@ module _ {step : ℕ → ℕ → Option (Priced ℕ)} {start : ℕ} {before befo
     where
       same : (d : ℕ) → d < m → SameArc b' b d
       same d h = mirrored (same-arcs m (omega arith) (omega arith) d h)
-
--- ---- the lists
-same-list : {X : Type 0} (d : X) (n : ℕ) (l l' l₀ : List X) → length l ≡ length l₀ → length l' ≡ length l₀ → drop n l ≡ drop n l₀
-    → drop n l' ≡ drop n l₀ → ((i : ℕ) → i < n → getD l i d ≡ getD l' i d) → l ≡ l'
-same-list {X} d n l l' l₀ p p' r r' f = ext-getD d l l' (p ∙ sym p') (λ i h. elim (decLt i n) [
-  | yes u ↦ f i u
-  | no u ↦
-      let q : n + (i - n) ≡ i = omega arith in
-      subst (λ (j : ℕ). getD l j d ≡ getD l' j d) q
-          (sym (getD-drop n l (i - n) d) ∙ ap (λ (x : List X). getD x (i - n) d) (r ∙ sym r') ∙ getD-drop n l' (i - n) d)
-])
-
--- an index over a list of distinct numbers is fixed
-module _ {N N' K K' I I' : List ℕ} {n : ℕ} (x : Index N K I n) (x' : Index N' K' I' n) (same : (v : ℕ) → v < n → at N v ≡ at N' v) where
-  listed : (i : ℕ) → i < n → Listed K' n (at K i)
-  listed i h =
-      let s = x' .onto (at I i) (x .below i h) in record {
-        index = s .place;
-        below = s .below;
-        is = x' .is (s .place) (s .below) ∙ ap (at N') (s .is) ∙ sym (same (at I i) (x .below i h)) ∙ sym (x .is i h);
-      }
-
-module _ {N N' K K' I I' : List ℕ} {n : ℕ} (x : Index N K I n) (x' : Index N' K' I' n) (same : (v : ℕ) → v < n → at N v ≡ at N' v) where
-  same-sorted : (i : ℕ) → i < n → at K i ≡ at K' i
-  same-sorted = same-entry n K n K' (x .rising .rises) (x' .rising .rises) (listed x x' same) (listed x' x (λ v h. sym (same v h)))
-
-  same-order : ((u v : ℕ) → u < n → v < n → at N u ≡ at N v → u ≡ v) → (i : ℕ) → i < n → at I i ≡ at I' i
-  same-order distinct i h = distinct (at I i) (at I' i) (x .below i h) (x' .below i h)
-      (sym (x .is i h) ∙ same-sorted i h ∙ x' .is i h ∙ sym (same (at I' i) (x' .below i h)))
-
-pub one-search : {step : ℕ → ℕ → Option (Priced ℕ)} {start : ℕ} {before b b' : GraphBuffers} {n m t t' : ℕ} → Searched step start before b n m t
-    → Searched step start before b' n m t' → Same before b → Same before b' → b ≡ b'
-one-search {step} {start} {before} {b} {b'} {n} {m} {t} {t'} g g' w w' = λ i. record {
-  node = same-list 0 n (b .node) (b' .node) (before .node) (w .nodes) (w' .nodes) (g .rest .node) (g' .rest .node) number i;
-  sorted = same-list 0 n (b .sorted) (b' .sorted) (before .sorted) (w .sorted) (w' .sorted) (g .rest .sorted) (g' .rest .sorted)
-      (same-sorted (g .index) (g' .index) number) i;
-  order = same-list 0 n (b .order) (b' .order) (before .order) (w .order) (w' .order) (g .rest .order) (g' .rest .order)
-      (same-order (g .index) (g' .index) number (g .distinct)) i;
-  tree = same-list 0 n (b .tree) (b' .tree) (before .tree) (w .tree) (w' .tree) (g .rest .tree) (g' .rest .tree) tree i;
-  from = same-list 0 m (b .from) (b' .from) (before .from) (w .from) (w' .from) (g .rest .from) (g' .rest .from) (λ d h. arc d h .from) i;
-  to = same-list 0 m (b .to) (b' .to) (before .to) (w .to) (w' .to) (g .rest .to) (g' .rest .to) (λ d h. arc d h .to) i;
-  code = same-list 0 m (b .code) (b' .code) (before .code) (w .code) (w' .code) (g .rest .code) (g' .rest .code) (λ d h. arc d h .code) i;
-  cost = same-list (pos 0) m (b .cost) (b' .cost) (before .cost) (w .cost) (w' .cost) (g .rest .cost) (g' .rest .cost)
-      (λ d h. ap (λ (x : Priced ℕ). x .cost) (arc d h .leads)) i;
-  reward = same-list 0 m (b .reward) (b' .reward) (before .reward) (w .reward) (w' .reward) (g .rest .reward) (g' .rest .reward)
-      (λ d h. ap (λ (x : Priced ℕ). x .reward) (arc d h .leads)) i;
-}
-  where
-    arc : (d : ℕ) → d < m → SameArc b b' d
-    arc = same-arcs g g' m (omega arith) (omega arith)
-
-    number : (v : ℕ) → v < n → at (b .node) v ≡ at (b' .node) v
-    number v h = same-nodes g g' (omega arith) v h .number
-
-    tree : (v : ℕ) → v < n → at (b .tree) v ≡ at (b' .tree) v
-    tree v h = elim (decLt 0 v) [
-      | yes p ↦ same-nodes g g' (omega arith) v h .tree p
-      | no p ↦
-          let z : 0 ≡ v = omega arith in
-          subst (λ (v : ℕ). at (b .tree) v ≡ at (b' .tree) v) z (g .rest .root ∙ sym (g' .rest .root))
-    ]

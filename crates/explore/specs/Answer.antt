@@ -75,7 +75,7 @@ pub record IsStep (step : ℕ → ℕ → Option (Priced ℕ)) (b : GraphBuffers
 
 module _ (step : ℕ → ℕ → Option (Priced ℕ)) (start : ℕ) where
   -- 2,048 nodes and one more: a turn comes whose step leads to none of the 2,048. The arcs are the allowed steps of the turns before it, each of
-  -- them and no other. A reader can see that this leaves no entry open (it is not proved), turn by turn: an allowed step is the next arc, to a node
+  -- them and no other. This leaves no entry open (proved in explore/proofs/OneGraph.antt), turn by turn: an allowed step is the next arc, to a node
   -- that stands already or to the next node, and the first step to a node for which there is no room stops.
   pub record Stopped (before after : GraphBuffers) : Type 0 where
     pub overfull : Overfull step start (after .node)
@@ -114,5 +114,6 @@ module _ (s : Sheet) where
   ExploreLeft before after TooMany = Stopped (stepRead s) (startRead s) before after
   ExploreLeft before after (Graph n m) = Explored (stepRead s) (startRead s) (found after n m) × Filled before after n m
 
+  -- This fixes the answer and every entry: explore/proofs/OneGraph.antt.
   abbrev pub ExploreAnswered : GraphBuffers → GraphBuffers → Outcome → Type 0
   ExploreAnswered before after r = ExploreNumbered before (outcomeNumber r) × ExploreLeft before after r
