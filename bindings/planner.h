@@ -20,8 +20,8 @@
  *   - What one pointer lends overlaps with nothing that another lends.
  *   - During the call nothing else writes to the sheet, and nothing else reads or writes the rest.
  *     No pointer is kept after the call: there is nothing to release.
- *   These, and room on the stack (below), are all the conditions: every sheet, node, code and count is answered, and every call
- *   returns.
+ *   These, and room on the stack (below), are all the conditions: every sheet, node, code and count
+ *   is answered, and every call returns.
  *
  * WHAT A CALL GIVES
  *   The result is 0, or the refusal: the number of the first question, from the table below, that
