@@ -18,6 +18,9 @@ enum { LONGER = PLANNER_LEAST_ENTRIES + 100, MARK = 77 };
 static const uint8_t bench[18] = {1, 1, 1, 1, 5, 1, 0, 5, 15, 0, 0, 0, 5, 0, 2, 0, 1, 2};
 /* Bench without its edge: no cycle. */
 static const uint8_t no_edge[8] = {1, 1, 1, 0, 5, 1, 0, 5};
+/* Bench and a second edge without reward, which costs 1, or -1. */
+static const uint8_t idle_costs[24] = {1, 1, 1, 2, 5, 1, 0, 5, 15, 0, 0, 0, 5, 0, 2, 0, 1, 2, 1, 0, 0, 0, 1, 0};
+static const uint8_t idle_gains[24] = {1, 1, 1, 2, 5, 1, 0, 5, 15, 0, 0, 0, 5, 0, 2, 0, 1, 2, 1, 0, 0, 0, 255, 255};
 
 static uint32_t nodes[LONGER];
 static int64_t potentials[LONGER];
@@ -47,6 +50,7 @@ static int hold(uint32_t entry, size_t node_count, size_t step_count) {
 static int all_zero(void) { return p == 0 && q == 0 && n == 0 && s == 0 && m == 0; }
 
 static void accepted(void) {
+    EXPECT(plan(idle_costs, sizeof idle_costs, LONGER) == 0 && p == 3 && q == 1 && n == 7);
     EXPECT(plan(bench, sizeof bench, LONGER) == 0);
     EXPECT(p == 3 && q == 1 && n == 7 && s >= 0 && m >= 1 && s + m <= n);
     EXPECT(hold(0, (size_t)n, (size_t)(s + m)));
@@ -75,6 +79,7 @@ static void refused(void) {
     EXPECT(plan(bench, sizeof bench, PLANNER_LEAST_ENTRIES - 1) == 1 && all_zero() && hold(MARK, 0, 0));
     EXPECT(plan(bench, sizeof bench - 1, LONGER) == 5 && all_zero() && hold(MARK, 0, 0));
     EXPECT(plan(no_edge, sizeof no_edge, LONGER) == 13 && all_zero() && hold(0, 0, 0));
+    EXPECT(plan(idle_gains, sizeof idle_gains, LONGER) == 14 && all_zero() && hold(0, 0, 0));
     EXPECT(planner_check(bench, sizeof bench) == 0 && planner_check(bench, 0) == 2);
     EXPECT(planner_step(bench, sizeof bench, 0, PLANNER_MOVE, &number, &cost, &reward) == 0);
     EXPECT(number == 5 && cost == 0 && reward == 0);

@@ -3,9 +3,9 @@
  *
  * A sheet is a small timed automaton written as bytes. planner_check tells whether bytes are a
  * sheet, planner_step takes one step of it, planner_plan finds the least cost per reward of a cycle
- * of corner points, which no repeating schedule undercuts that waits in fractions of a unit, and a
- * lasso whose cycle has it. docs/SHEET.md says what these are. The functions are those of
- * crates/exports/src/lib.rt, whose contracts are proved; this file only declares them.
+ * of corner points that earns, which no repeating schedule undercuts that waits in fractions of a
+ * unit, and a lasso whose cycle has it. docs/SHEET.md says what these are. The functions are those
+ * of crates/exports/src/lib.rt, whose contracts are proved; this file only declares them.
  *
  * LINKING
  *   `rt staticlib exports` proves the planner and writes target/staticlib/libexports.a, for
@@ -42,8 +42,8 @@
  *       10     Has every byte been used?                                        x      x    x
  *       11     Do the bounds of location 0 admit all clocks at 0?               x      x    x
  *       12     Are at most 2,048 nodes reachable?                                           x
- *       13     Is some cycle reachable?                                                     x
- *       14     Does every reachable cycle earn more than 0?                                 x
+ *       13     Is a cycle with reward above 0 reachable?                                    x
+ *       14     Does every reachable cycle without reward cost 0 or more?                    x
  *       15     Is the number that of a node of this sheet?                             x
  *       16     Is the code allowed there?                                              x
  *
@@ -51,7 +51,7 @@
  *
  * STACK AND THREADS
  *   The functions allocate nothing; their room is the caller's stack. As bench/plan/run measured it,
- *   planner_plan took 906 KB, planner_step 3 KB and planner_check 1 KB at most; it fails where one
+ *   planner_plan took 874 KB, planner_step 3 KB and planner_check 1 KB at most; it fails where one
  *   takes 2 MB. So a thread that plans does with a stack of 2 MB.
  *   They have no state, global or kept from call to call: threads may call them at the same time,
  *   each with memory of its own to write to. They do no input or output and set no errno.
@@ -103,9 +103,9 @@ uint8_t planner_step(const uint8_t *sheet, size_t sheet_length, uint32_t node, u
  * n                                gets the count of reachable nodes
  * s, m                             get the lengths of stem and cycle; m >= 1 and s + m <= n
  *
- * The least ratio of cost over reward of a cycle is p / q; the lasso goes from the start and its
- * cycle has that ratio. The potential of a node is the least weight of a walk to it from the start,
- * where a step weighs q times its cost minus p times its reward.
+ * The least ratio of cost over reward of a cycle that earns is p / q; the lasso goes from the start,
+ * and its cycle earns and has that ratio. The potential of a node is the least weight of a walk to
+ * it from the start, where a step weighs q times its cost minus p times its reward.
  *
  * What stands in the buffers afterwards:
  *     accepted (0)   n entries of nodes and potentials, s + m of steps, and 0 from there to the end

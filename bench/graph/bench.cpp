@@ -156,7 +156,7 @@ int main(int count, char **words) {
         Graph g = random_graph(nodes, arcs, unsigned(arcs));
         ratios.push_back(compare(g, {1, 10000, 0}, nodes)); // no cycle is below the ratio -10000
         ratios.push_back(compare(g, {1, 0, 0}, nodes));     // a cycle of negative cost
-        ratios.push_back(compare(g, {0, 0, -1}, nodes));    // any cycle
+        ratios.push_back(compare(g, {0, -1, 0}, nodes));    // a cycle that earns
     }
     print_mean(ratios);
 }

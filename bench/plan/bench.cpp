@@ -1,4 +1,4 @@
-// Times the proved planner beside a C++ one on the same seeded sheets, prints tables and writes a plot.
+// Times the proved planner beside two in C++ on the same seeded sheets, prints tables and writes a plot.
 #include <cstdio>
 #include <cstdlib>
 #include <map>
@@ -19,16 +19,17 @@ void print_row(const Row &row, size_t reachable) {
     if (row.plan.refusal) arcs = "refused " + std::to_string(row.plan.refusal);
     if (row.plan.refusal == 12) nodes = "over 2048";
     else if (reachable == 0) nodes = "not explored";
-    if (std::string(row.plan.howard) != "least") note = std::string(", Boost's cycle: ") + row.plan.howard;
+    if (row.plan.refusal == 0 && std::string(row.plan.howard) != "least") note = std::string(", Boost's cycle: ") + row.plan.howard;
     if (!row.agree) note = ", THE ANSWERS DIFFER";
     int places = row.proved < 10 || row.cpp < 10; // of a short time
-    std::printf("| %s | %s | %d | %.*f | %.*f | %.2f%s |\n", nodes.c_str(), arcs.c_str(), row.clocks, places, row.proved, places, row.cpp,
-                row.proved / row.cpp, note.c_str());
+    std::printf("| %s | %s | %d | %.*f | %.*f | %.2f | %.*f | %.2f%s |\n", nodes.c_str(), arcs.c_str(), row.clocks, places, row.proved, places,
+                row.cpp, row.proved / row.cpp, places, row.boost, row.proved / row.boost, note.c_str());
     std::fflush(stdout);
 }
 
 void head(const char *title) {
-    std::printf("\n%s\n\n| nodes | arcs | clocks | proved, µs | C++, µs | proved / C++ |\n|---|---|---|---|---|---|\n", title);
+    std::printf("\n%s\n\n| nodes | arcs | clocks | proved, µs | C++, µs | proved / C++ | Boost, µs | proved / Boost |\n", title);
+    std::printf("|---|---|---|---|---|---|---|---|\n");
 }
 
 Row run_row(const Made &made, const char *what) {
@@ -46,7 +47,7 @@ Panel grow_nodes(const char *title, Kind kind, const std::vector<unsigned> &coun
     Panel panel{std::string(title) + ", " + std::to_string(kind.clocks) + " clocks", "nodes", {}};
     for (unsigned n : counts) {
         Row row = run_row(make_sheet(kind, n), "the wanted nodes");
-        panel.points.push_back({double(row.plan.nodes), row.proved, row.cpp});
+        panel.points.push_back({double(row.plan.nodes), row.proved, row.cpp, row.boost});
     }
     return panel;
 }
@@ -59,15 +60,25 @@ Panel grow_arcs(int clocks) {
                           {clocks, 1, 21, 18, 22},  {clocks, 1, 26, 23, 27},  {clocks, 1, 32, 27, 30}};
     for (const Kind &kind : kinds) {
         Row row = run_row(make_sheet(kind, 1900), "the wanted arcs");
-        panel.points.push_back({double(row.plan.arcs), row.proved, row.cpp});
+        panel.points.push_back({double(row.plan.arcs), row.proved, row.cpp, row.boost});
     }
     return panel;
 }
 
+// Accepted: beside the cycles that earn there is one that costs 1, or nothing, and earns nothing.
+void run_idle(const Kind &sparse, const Kind &dense) {
+    for (int cost : {1, 0}) {
+        run_row(with_idle(make_sheet(sparse, 800), cost), "an idle cycle");
+        run_row(with_idle(make_sheet(dense, 400), cost), "an idle cycle");
+    }
+}
+
 void run_refused(const Kind &sparse, const Kind &dense) {
-    for (const Kind &kind : {Kind{2, 12, 10, 0, 0}, Kind{3, 12, 10, 0, 0}}) run_row(make_acyclic(kind, 400), "no cycle");
-    run_row(make_idle(sparse, 800), "an idle cycle");
-    run_row(make_idle(dense, 400), "an idle cycle");
+    const Kind few2{2, 12, 10, 0, 0}, few3{3, 12, 10, 0, 0};
+    for (const Kind &kind : {few2, few3}) run_row(make_acyclic(kind, 400), "no cycle");
+    run_row(with_idle(make_acyclic(few2, 400), -1), "only an idle cycle");
+    run_row(with_idle(make_sheet(sparse, 800), -1), "an idle cycle that makes money");
+    run_row(with_idle(make_sheet(dense, 400), -1), "an idle cycle that makes money");
     run_row(make_too_long(sparse, 1950), "a byte too many");
 }
 
@@ -77,7 +88,7 @@ size_t kilobytes(size_t bytes) { return (bytes + 1023) / 1024; }
 bool good() {
     bool agree = true;
     for (const auto &[sheet, row] : rows) agree = agree && row.agree;
-    if (!agree) std::printf("The answers of the two planners differ.\n");
+    if (!agree) std::printf("The answers of the planners differ.\n");
     std::printf("\nPeak stack: planner_plan %zu KB, planner_step %zu KB, planner_check %zu KB; each has to stay under 2048 KB.\n",
                 kilobytes(deepest.plan), kilobytes(deepest.step), kilobytes(deepest.check));
     return agree && deepest.plan < (2u << 20) && deepest.step < (2u << 20) && deepest.check < (2u << 20);
@@ -107,11 +118,15 @@ int main(int count, char **words) {
     grow_arcs(3);
     head("More nodes than a plan may have");
     for (const Kind &kind : {sparse2, sparse3, dense3}) run_row(make_overfull(kind), "too many nodes");
-    head("No cycle, an idle cycle, a byte too many");
-    run_refused(sparse2, {3, 1, 31, 25, 30});
+    const Kind room3{3, 1, 31, 25, 30}; // for an edge more
+    head("A cycle without reward that costs 1, or nothing");
+    run_idle(sparse2, room3);
+    head("No cycle that earns, a cycle without reward that makes money, a byte too many");
+    run_refused(sparse2, room3);
     std::vector<Row> all;
     for (const auto &[sheet, row] : rows) all.push_back(row);
-    print_summary(all);
+    print_summary(all, "C++", &Row::cpp);
+    print_summary(all, "Boost", &Row::boost);
     if (!write_plot(words[1], {nodes, arcs})) {
         std::fprintf(stderr, "cannot write %s\n", words[1]);
         return 2;

@@ -48,21 +48,3 @@ bool explore(const Sheet &sheet, Graph &graph) {
     }
     return true;
 }
-
-bool cyclic(const Graph &graph, int most) {
-    size_t n = graph.numbers.size(), m = graph.arcs.size();
-    std::vector<uint32_t> entering(n, 0), first(n + 1, 0), ready;
-    for (const Arc &a : graph.arcs) {
-        first[a.from + 1]++;
-        if (a.reward <= most) entering[a.to]++;
-    }
-    for (size_t v = 0; v < n; v++) first[v + 1] += first[v];
-    for (uint32_t v = 0; v < n; v++)
-        if (entering[v] == 0) ready.push_back(v);
-    for (size_t i = 0; i < ready.size(); i++)
-        for (size_t e = first[ready[i]]; e < first[ready[i] + 1] && e < m; e++) {
-            const Arc &a = graph.arcs[e];
-            if (a.reward <= most && --entering[a.to] == 0) ready.push_back(a.to);
-        }
-    return ready.size() < n;
-}

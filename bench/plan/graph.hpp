@@ -1,4 +1,4 @@
-// The reachable nodes of a sheet with the arcs between them, and the least ratio of their cycles.
+// The reachable nodes of a sheet with the arcs between them, and searches for cycles among these.
 #pragma once
 #include "sheet.hpp"
 
@@ -22,15 +22,16 @@ struct Ratio {
 // False where more than most_nodes nodes are reachable.
 bool explore(const Sheet &sheet, Graph &graph);
 
-// Whether some cycle has no arc that earns more than `most`.
-bool cyclic(const Graph &graph, int most);
+// What a cycle, given by its arcs, costs (p) and earns (q).
+Ratio sums_of(const Graph &graph, const std::vector<uint32_t> &cycle);
 
-// The ratio of a cycle given by its arcs, in lowest terms.
-Ratio ratio_of(const Graph &graph, const std::vector<uint32_t> &cycle);
+// The same ratio in lowest terms; q is above 0.
+Ratio lowest(Ratio ratio);
 
-// The critical cycle of Boost's minimum_cycle_ratio, as arcs in order; none where Boost names none.
+// The critical cycle of Boost's minimum_cycle_ratio, as arcs in order; none where Boost names none. Boost divides by rewards: beside a cycle
+// without reward it may name any cycle, or none.
 std::vector<uint32_t> howard_cycle(const Graph &graph);
 
 // Bellman and Ford's rounds for the weight q times cost minus p times reward: the least weights of walks from the start,
-// or where there are none the arcs of a cycle below the ratio.
+// or where there are none the arcs of a cycle that weighs less than 0.
 std::vector<uint32_t> cycle_below(const Graph &graph, Ratio ratio, std::vector<int64_t> &potentials);

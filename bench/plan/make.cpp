@@ -68,6 +68,22 @@ template <class Wanted> Made first(const Kind &kind, Wanted wanted) {
     return {};
 }
 
+// Whether some cycle is reachable: nodes that no arc enters are taken away until none is left.
+bool cyclic(const Graph &graph) {
+    std::vector<std::vector<uint32_t>> leaving(graph.numbers.size());
+    std::vector<uint32_t> entering(graph.numbers.size(), 0), ready;
+    for (const Arc &a : graph.arcs) {
+        leaving[a.from].push_back(a.to);
+        entering[a.to]++;
+    }
+    for (uint32_t v = 0; v < entering.size(); v++)
+        if (entering[v] == 0) ready.push_back(v);
+    for (size_t i = 0; i < ready.size(); i++)
+        for (uint32_t to : leaving[ready[i]])
+            if (--entering[to] == 0) ready.push_back(to);
+    return ready.size() < entering.size();
+}
+
 bool near(size_t count, unsigned wanted) { return wanted * 0.95 <= double(count) && double(count) <= wanted * 1.05; }
 
 } // namespace
@@ -76,7 +92,7 @@ Made make_sheet(const Kind &kind, unsigned nodes) {
     return first(kind, [&](bool whole, const Graph &graph) {
         double density = double(graph.arcs.size()) / double(graph.numbers.size());
         if (!whole || !near(graph.numbers.size(), nodes) || density < kind.least_density || kind.most_density < density) return false;
-        return cyclic(graph, 10000) && !cyclic(graph, 0);
+        return cyclic(graph);
     });
 }
 
@@ -85,15 +101,15 @@ Made make_overfull(const Kind &kind) {
 }
 
 Made make_acyclic(const Kind &kind, unsigned nodes) {
-    return first(kind, [&](bool whole, const Graph &graph) { return whole && near(graph.numbers.size(), nodes) && !cyclic(graph, 10000); });
+    return first(kind, [&](bool whole, const Graph &graph) { return whole && near(graph.numbers.size(), nodes) && !cyclic(graph); });
 }
 
-Made make_idle(const Kind &kind, unsigned nodes) {
-    Made made = make_sheet(kind, nodes);
+Made with_idle(Made made, int cost) {
     if (made.bytes.empty() || made.bytes[3] == 32) return {};
     made.bytes[3]++;
-    // no field; source and target are location 0
-    made.bytes.insert(made.bytes.end(), {0, 0, 0, 0});
+    // of the fields only the cost; source and target are location 0
+    made.bytes.insert(made.bytes.end(), {uint8_t(cost != 0), 0, 0, 0});
+    if (cost != 0) put_word(made.bytes, cost);
     return made;
 }
 

@@ -14,7 +14,8 @@ struct Made {
     size_t nodes = 0;           // the reachable ones, where they were counted to the end
 };
 
-// The first sheet of the kind, by rising seed, that a planner accepts with the wanted count of nodes, give or take a twentieth.
+// The first sheet of the kind, by rising seed, with the wanted count of nodes, give or take a twentieth, and a cycle. All edges and all time earn,
+// so that each cycle does, and a planner accepts it.
 Made make_sheet(const Kind &kind, unsigned nodes);
 
 // The first sheet of the kind with more nodes than a plan may have.
@@ -23,8 +24,8 @@ Made make_overfull(const Kind &kind);
 // The first sheet of the kind with the wanted count of nodes and no cycle.
 Made make_acyclic(const Kind &kind, unsigned nodes);
 
-// The sheet that make_sheet gives, and one edge more that leads from location 0 back to it and earns nothing.
-Made make_idle(const Kind &kind, unsigned nodes);
+// The sheet with one edge more, from location 0 back to it, that has this cost and earns nothing: a cycle without reward.
+Made with_idle(Made made, int cost);
 
 // The sheet that make_sheet gives, and one byte more.
 Made make_too_long(const Kind &kind, unsigned nodes);

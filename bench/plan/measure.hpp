@@ -1,12 +1,12 @@
-// The time and the stack of both planners on one sheet.
+// The time of the planners on one sheet, and the stack of the proved one.
 #pragma once
 #include "planner.hpp"
 
 struct Row {
-    Plan plan; // of the C++ planner
+    Plan plan; // of the C++ planner that begins with Boost's cycle
     int clocks = 0;
-    double proved = 1e30, cpp = 1e30; // the least time of a call, in microseconds
-    bool agree = false;               // refusal, ratio, nodes and potentials are equal
+    double proved = 1e30, cpp = 1e30, boost = 1e30; // the least time of a call, in microseconds
+    bool agree = false;                             // refusal, ratio, nodes and potentials are equal
 };
 
 // The deepest stack of each function of the proved planner, in bytes, over all sheets measured.

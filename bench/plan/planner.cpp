@@ -5,22 +5,35 @@
 
 namespace {
 
-// Boost's cycle, improved as long as some cycle is below its ratio.
-std::vector<uint32_t> least_cycle(const Graph &graph, std::vector<int64_t> &potentials, Plan &answer) {
-    std::vector<uint32_t> cycle = howard_cycle(graph);
-    // every cycle is below the ratio that stands in where Boost names none
-    Ratio ratio = cycle.empty() ? Ratio{20480001, 1} : ratio_of(graph, cycle);
+constexpr Ratio above_all{1, 0}; // just the cycles that earn weigh less than 0
+
+// Boost's cycle and its ratio, where it names one that earns.
+Ratio first_ratio(const Graph &graph, std::vector<uint32_t> &cycle) {
+    cycle = howard_cycle(graph);
+    Ratio sums = sums_of(graph, cycle);
+    if (sums.q > 0) return lowest(sums);
+    cycle.clear();
+    return above_all;
+}
+
+// Questions 13 and 14; where both are answered yes, the ratio, a cycle that has it and the potentials. At a ratio a cycle without reward that
+// weighs less than 0 makes money, and one that earns is in hand.
+int least_cycle(const Graph &graph, Begin begin, std::vector<uint32_t> &cycle, std::vector<int64_t> &potentials, Plan &answer) {
+    Ratio ratio = begin == Begin::boost ? first_ratio(graph, cycle) : above_all;
     const char *wrong = cycle.empty() ? "none" : "not least";
     for (;;) {
         std::vector<uint32_t> below = cycle_below(graph, ratio, potentials);
         if (below.empty()) break;
-        answer.howard = wrong;
+        Ratio sums = sums_of(graph, below);
+        if (sums.q == 0) return 14;
+        if (begin == Begin::boost) answer.howard = wrong;
         cycle = below;
-        ratio = ratio_of(graph, cycle);
+        ratio = lowest(sums);
     }
+    if (cycle.empty()) return 13;
     answer.p = ratio.p;
     answer.q = ratio.q;
-    return cycle;
+    return 0;
 }
 
 // The stem goes along the first arcs to the node of the cycle that was discovered first.
@@ -49,29 +62,27 @@ void lay_nodes(const Graph &graph, const std::vector<int64_t> &potentials, Buffe
     }
 }
 
-int question(const Sheet &sheet, Graph &graph) {
-    if (!explore(sheet, graph)) return 12;
-    if (!cyclic(graph, 10000)) return 13;
-    return cyclic(graph, 0) ? 14 : 0;
+void clear(Buffers &buffers) {
+    std::fill(buffers.nodes.begin(), buffers.nodes.end(), 0u);
+    std::fill(buffers.potentials.begin(), buffers.potentials.end(), int64_t(0));
+    std::fill(buffers.steps.begin(), buffers.steps.end(), uint16_t(0));
 }
 
 } // namespace
 
-Plan plan(const uint8_t *bytes, size_t length, Buffers &buffers) {
+Plan plan(const uint8_t *bytes, size_t length, Begin begin, Buffers &buffers) {
     Plan answer;
     Sheet sheet;
     answer.refusal = read_sheet(bytes, length, sheet);
     if (answer.refusal) return answer;
     Graph graph;
-    answer.refusal = question(sheet, graph);
+    std::vector<uint32_t> cycle;
+    std::vector<int64_t> potentials;
+    answer.refusal = explore(sheet, graph) ? least_cycle(graph, begin, cycle, potentials, answer) : 12;
     if (answer.refusal) {
-        std::fill(buffers.nodes.begin(), buffers.nodes.end(), 0u);
-        std::fill(buffers.potentials.begin(), buffers.potentials.end(), int64_t(0));
-        std::fill(buffers.steps.begin(), buffers.steps.end(), uint16_t(0));
+        clear(buffers);
         return answer;
     }
-    std::vector<int64_t> potentials;
-    std::vector<uint32_t> cycle = least_cycle(graph, potentials, answer);
     answer.nodes = graph.numbers.size();
     answer.arcs = graph.arcs.size();
     lay_nodes(graph, potentials, buffers);

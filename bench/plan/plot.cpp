@@ -14,7 +14,7 @@ struct Look {
     std::string stroke() const { return "stroke='" + colour + "' stroke-width='2' stroke-dasharray='" + dashes + "'"; }
 };
 
-const Look proved_look{"#0b5cad", "none"}, cpp_look{"#b3440e", "6 3"};
+const Look proved_look{"#0b5cad", "none"}, cpp_look{"#b3440e", "6 3"}, boost_look{"#4d7a1f", "2 3"};
 const char *const grey = "stroke='#dddddd'", *const black = "stroke='#000000'";
 
 struct Axis {
@@ -91,15 +91,17 @@ std::string key(double x, double y, const Look &look, const std::string &words) 
 std::string draw(const Panel &panel, double shift) {
     double least = 1e300, most = 0;
     for (const Point &p : panel.points) {
-        least = std::min({least, p.proved, p.cpp});
-        most = std::max({most, p.proved, p.cpp});
+        least = std::min({least, p.proved, p.cpp, p.boost});
+        most = std::max({most, p.proved, p.cpp, p.boost});
     }
     Axis x = axis_of(panel.points.front().x, panel.points.back().x, shift + left, shift + left + width);
     Axis y = axis_of(least, most, top + height, top);
     std::string s = frame(panel, x, y);
     s += curve(panel, x, y, proved_look, [](const Point &p) { return p.proved; });
     s += curve(panel, x, y, cpp_look, [](const Point &p) { return p.cpp; });
-    return s + key(x.from + 14, y.to + 22, proved_look, "proved planner") + key(x.from + 14, y.to + 42, cpp_look, "C++ with Boost");
+    s += curve(panel, x, y, boost_look, [](const Point &p) { return p.boost; });
+    s += key(x.from + 14, y.to + 22, proved_look, "proved planner") + key(x.from + 14, y.to + 42, cpp_look, "C++, the same searches");
+    return s + key(x.from + 14, y.to + 62, boost_look, "C++, Boost's cycle first");
 }
 
 } // namespace

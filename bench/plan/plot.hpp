@@ -4,7 +4,7 @@
 #include <vector>
 
 struct Point {
-    double x, proved, cpp;
+    double x, proved, cpp, boost;
 };
 
 struct Panel {

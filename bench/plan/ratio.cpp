@@ -5,14 +5,18 @@
 
 #include "graph.hpp"
 
-Ratio ratio_of(const Graph &graph, const std::vector<uint32_t> &cycle) {
-    Ratio r{0, 0};
+Ratio sums_of(const Graph &graph, const std::vector<uint32_t> &cycle) {
+    Ratio sums{0, 0};
     for (uint32_t e : cycle) {
-        r.p += graph.arcs[e].cost;
-        r.q += graph.arcs[e].reward;
+        sums.p += graph.arcs[e].cost;
+        sums.q += graph.arcs[e].reward;
     }
-    int64_t d = std::gcd(r.p, r.q);
-    return {r.p / d, r.q / d};
+    return sums;
+}
+
+Ratio lowest(Ratio ratio) {
+    int64_t d = std::gcd(ratio.p, ratio.q);
+    return {ratio.p / d, ratio.q / d};
 }
 
 namespace {
@@ -75,6 +79,7 @@ std::vector<uint32_t> howard_cycle(const Graph &graph) {
 
 std::vector<uint32_t> cycle_below(const Graph &graph, Ratio ratio, std::vector<int64_t> &potentials) {
     constexpr int64_t far = int64_t(1) << 60;
+    constexpr int64_t deep = -1000000000000000; // no walk without a cycle comes so low
     std::vector<int64_t> weight;
     weight.reserve(graph.arcs.size());
     for (const Arc &a : graph.arcs) weight.push_back(ratio.q * a.cost - ratio.p * a.reward);
@@ -82,17 +87,18 @@ std::vector<uint32_t> cycle_below(const Graph &graph, Ratio ratio, std::vector<i
     std::vector<uint32_t> parent(graph.numbers.size(), none);
     potentials[0] = 0;
     for (size_t round = 1;; round++) {
-        bool lowered = false;
+        bool lowered = false, looped = false;
         for (uint32_t e = 0; e < graph.arcs.size(); e++) {
             const Arc &a = graph.arcs[e];
             if (potentials[a.from] == far || potentials[a.to] <= potentials[a.from] + weight[e]) continue;
             potentials[a.to] = potentials[a.from] + weight[e];
             parent[a.to] = e;
             lowered = true;
+            looped = looped || potentials[a.to] < deep;
         }
         if (!lowered) return {};
         // at the rounds 1, 2, 4, ...: cheap where there is none, soon enough where there is one
-        if ((round & (round - 1)) != 0) continue;
+        if ((round & (round - 1)) != 0 && !looped) continue;
         std::vector<uint32_t> cycle = find_cycle(graph, parent);
         if (!cycle.empty()) return cycle;
     }

@@ -31,14 +31,14 @@ bool belongs(const Group &group, const Plan &plan) {
            plan.nodes <= group.most_nodes;
 }
 
-void print_group(const Group &group, const std::vector<Row> &rows) {
+void print_group(const Group &group, const std::vector<Row> &rows, double Row::*other) {
     std::vector<double> logs;
-    double proved = 0, cpp = 0;
+    double proved = 0, beside = 0;
     for (const Row &row : rows) {
         if (!belongs(group, row.plan)) continue;
-        logs.push_back(std::log(row.proved / row.cpp));
+        logs.push_back(std::log(row.proved / row.*other));
         proved += row.proved;
-        cpp += row.cpp;
+        beside += row.*other;
     }
     if (logs.empty()) return;
     double sum = 0, squares = 0;
@@ -46,20 +46,20 @@ void print_group(const Group &group, const std::vector<Row> &rows) {
     double mean = sum / double(logs.size());
     for (double log : logs) squares += (log - mean) * (log - mean);
     if (logs.size() == 1) {
-        std::printf("| %s | 1 | %.2f | | | %.2f |\n", group.name, std::exp(mean), proved / cpp);
+        std::printf("| %s | 1 | %.2f | | | %.2f |\n", group.name, std::exp(mean), proved / beside);
         return;
     }
     double deviation = std::sqrt(squares / double(logs.size() - 1));
     auto [least, largest] = std::minmax_element(logs.begin(), logs.end());
     std::printf("| %s | %zu | %.2f | %.2f | %.2f to %.2f | %.2f |\n", group.name, logs.size(), std::exp(mean), std::exp(deviation),
-                std::exp(*least), std::exp(*largest), proved / cpp);
+                std::exp(*least), std::exp(*largest), proved / beside);
 }
 
 } // namespace
 
-void print_summary(const std::vector<Row> &rows) {
-    std::printf("\nproved / C++, by groups\n\n");
-    std::printf("| sheets | number | geometric mean | geometric standard deviation | least to largest | sum of times, proved / C++ |\n");
+void print_summary(const std::vector<Row> &rows, const char *name, double Row::*other) {
+    std::printf("\nproved / %s, by groups\n\n", name);
+    std::printf("| sheets | number | geometric mean | geometric standard deviation | least to largest | sum of times, proved / %s |\n", name);
     std::printf("|---|---|---|---|---|---|\n");
-    for (const Group &group : groups) print_group(group, rows);
+    for (const Group &group : groups) print_group(group, rows, other);
 }

@@ -2,8 +2,8 @@
 //!
 //! A sheet is a small timed automaton written as bytes. [`check`] tells whether bytes are a sheet,
 //! [`step`] takes one step of it, and [`Planner::plan`] finds the least cost per reward of a cycle of
-//! corner points, which no repeating schedule undercuts that waits in fractions of a unit, and a
-//! lasso whose cycle has it. `docs/SHEET.md` says what these are.
+//! corner points that earns, which no repeating schedule undercuts that waits in fractions of a unit,
+//! and a lasso whose cycle has it. `docs/SHEET.md` says what these are.
 //!
 //! ```
 //! let bench = [1, 1, 1, 1, 5, 1, 0, 5, 15, 0, 0, 0, 5, 0, 2, 0, 1, 2];
@@ -15,7 +15,7 @@
 //!
 //! The answers are those of the functions that `crates/exports` proves, in the static library that
 //! `rt staticlib exports` writes. The library allocates nothing and keeps no state; a plan takes up
-//! to 906 KB of the calling thread's stack (measured), and Rust's threads have 2 MB.
+//! to 874 KB of the calling thread's stack (measured), and Rust's threads have 2 MB.
 #![deny(missing_docs)]
 #![deny(unsafe_code)]
 

@@ -14,7 +14,8 @@ pub struct Planner {
 /// The plan of an accepted sheet.
 #[derive(Clone, Copy, Debug, PartialEq, Eq)]
 pub struct Plan<'a> {
-    /// The upper number of the least ratio p / q of cost over reward, in lowest terms.
+    /// The upper number of the least ratio p / q of cost over reward of a cycle that earns, in lowest
+    /// terms.
     pub p: i64,
     /// The lower number of the ratio, at least 1.
     pub q: i64,
@@ -25,7 +26,7 @@ pub struct Plan<'a> {
     pub potentials: &'a [i64],
     /// The codes of the steps that lead from the start to the cycle.
     pub stem: &'a [u16],
-    /// The codes of the steps of a cycle that has the ratio; at least one.
+    /// The codes of the steps of a cycle that earns and has the ratio; at least one.
     pub cycle: &'a [u16],
 }
 
@@ -44,7 +45,7 @@ impl Planner {
     /// ```
     /// let mut planner = planner::Planner::new();
     /// let refusal = planner.plan(&[1, 1, 1, 0, 4, 3]).unwrap_err();
-    /// assert_eq!(refusal.to_string(), "refused 13: Is some cycle reachable?");
+    /// assert_eq!(refusal.to_string(), "refused 13: Is a cycle with reward above 0 reachable?");
     /// ```
     pub fn plan(&mut self, sheet: &[u8]) -> Result<Plan<'_>, Refusal> {
         let Planner { nodes, potentials, steps } = self;

@@ -9,6 +9,9 @@ const BENCH: [u8; 18] = [1, 1, 1, 1, 5, 1, 0, 5, 15, 0, 0, 0, 5, 0, 2, 0, 1, 2];
 /// Bench without its edge: no cycle.
 const NO_EDGE: [u8; 8] = [1, 1, 1, 0, 5, 1, 0, 5];
 
+/// Bench without its reward: a cycle, and none that earns.
+const NO_REWARD: [u8; 16] = [1, 1, 1, 1, 5, 1, 0, 5, 13, 0, 0, 0, 5, 0, 1, 2];
+
 #[test]
 fn bench_is_planned() {
     let mut planner = Planner::new();
@@ -43,6 +46,25 @@ fn a_planner_goes_on_after_a_refusal() {
     assert_eq!(planner.plan(&NO_EDGE).expect_err("no cycle").number(), 13);
     assert_eq!(planner.plan(&[0; LONGEST_SHEET + 1]).expect_err("too long").number(), 2);
     assert_eq!(planner.plan(&BENCH).map(|plan| plan.p), Ok(3));
+}
+
+/// Bench and a second edge, which has this cost and no other field: a cycle without reward.
+fn with_idle(cost: i16) -> Vec<u8> {
+    let mut sheet = BENCH.to_vec();
+    sheet[3] = 2;
+    sheet.extend([1, 0, 0, 0]);
+    sheet.extend(cost.to_le_bytes());
+    sheet
+}
+
+#[test]
+fn a_cycle_without_reward_may_cost_and_not_make_money() {
+    let mut planner = Planner::new();
+    assert_eq!(planner.plan(&with_idle(1)).map(|plan| (plan.p, plan.q)), Ok((3, 1)));
+    let refusal = planner.plan(&with_idle(-1)).expect_err("it makes money");
+    let question = "Does every reachable cycle without reward cost 0 or more?";
+    assert_eq!(refusal.to_string(), format!("refused 14: {question}"));
+    assert_eq!(planner.plan(&NO_REWARD).expect_err("no cycle earns").number(), 13);
 }
 
 #[test]

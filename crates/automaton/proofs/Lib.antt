@@ -14,7 +14,6 @@ pub mod Nodes
 pub mod Reached
 pub mod Corners
 pub mod Ratios
-pub mod Acyclic
 pub mod Potentials
 pub mod Covers
 pub mod Places

@@ -70,6 +70,22 @@ fn edges() {
     );
 }
 
+// Changes by an edge without reward, none of them 01's.
+fn idle_edges() {
+    case(
+        b"a second edge equal but without reward",
+        b"\x01\x01\x01\x02\x05\x01\x00\x05\x0F\x00\x00\x00\x05\x00\x02\x00\x01\x02\x0D\x00\x00\x00\x05\x00\x01\x02",
+    );
+    case(
+        b"a second edge without reward and cost FC FF",
+        b"\x01\x01\x01\x02\x05\x01\x00\x05\x0F\x00\x00\x00\x05\x00\x02\x00\x01\x02\x0D\x00\x00\x00\xFC\xFF\x01\x02",
+    );
+    case(
+        b"reward left out and edge cost FC FF",
+        b"\x01\x01\x01\x01\x05\x01\x00\x05\x0D\x00\x00\x00\xFC\xFF\x01\x02",
+    );
+}
+
 fn lengths() {
     case(
         b"a byte more",
@@ -89,6 +105,7 @@ fn main() {
     );
     bounds();
     edges();
+    idle_edges();
     lengths();
     case(
         b"edition 2 with L 0",

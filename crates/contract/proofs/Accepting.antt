@@ -3,13 +3,12 @@ use mathlib.Core.Path.{_≡_, sym, ap, _∙_, subst}
 use mathlib.Core.List.{List}
 use mathlib.Core.Option.{Option}
 use Prim.Native.Nat.{ℕ, _≤_, _<_}
-use native.Mathlib.Decide.{decLt}
 use native.Mathlib.Omega.{arith}
 use lib.IntN.{ℤ, pos, natAbs}
 use lib.ListN.{length}
 use Rattle.integers.proofs.Pigeonhole.{onto}
 use Rattle.automaton.specs.Priced.{Priced}
-use Rattle.automaton.specs.Walks.{Reachable, ReachableCycle}
+use Rattle.automaton.specs.Walks.{Reachable}
 use Rattle.automaton.specs.Weights.{Feasible}
 use Rattle.automaton.specs.Weights as Steps
 use Rattle.automaton.proofs.Tests.{by-order}
@@ -17,7 +16,6 @@ use Rattle.automaton.proofs.Potentials.{least-feasible}
 use Rattle.walks.specs.Walk.{at, atℤ}
 use Rattle.walks.specs.Weight.{LeastWeight, PotentialOrMark}
 use Rattle.walks.proofs.Weights.{least-of}
-use Rattle.contract.specs.Questions.{IdleCycle}
 use Rattle.contract.specs.Accepted.{NodeList, PotentialList}
 use Rattle.contract.specs.Explored.{Found, Explored, Sorted}
 use Rattle.contract.specs.Certificate.{indexOf}
@@ -73,10 +71,3 @@ module _ {step : ℕ → ℕ → Option (Priced ℕ)} {start : ℕ} {g : Found} 
 
     pub feasible : Feasible step start p q (ϕ g D)
     feasible = least-feasible step start p q (ϕ g D) ϕ-least
-
-  -- a reachable cycle earns, where none is idle
-  pub earns : ¬ IdleCycle step start → (c : ℤ) (r : ℕ) → ReachableCycle step start c r → 0 < r
-  earns none c r o = elim (decLt 0 r) [
-    | yes h ↦ h
-    | no h ↦ (let e : r ≡ 0 = omega arith in absurd (none record { cost = c; cycle = subst (ReachableCycle step start c) e o }))
-  ]

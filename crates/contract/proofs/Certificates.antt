@@ -5,25 +5,27 @@ use mathlib.Core.List.{List}
 use mathlib.Core.Option.{some}
 use Prim.Native.Nat.{ℕ, _<_}
 use native.Mathlib.Omega.{arith}
-use borrow.Author.Tests.{ltb-true, eqb-true, eqb-false, eq-eqb}
+use borrow.Author.Tests.{ltb-true, eqb-true, eqb-false}
 use lib.Dec.{eqb}
 use lib.IntN.{ℤ, pos, _*ℤ_}
 use lib.ListN.{length}
+use Rattle.integers.proofs.Parts.{lt-of, less}
 use Rattle.automaton.specs.Priced.{Priced}
 use Rattle.automaton.specs.Walks.{ReachableCycle}
 use Rattle.automaton.proofs.Tests.{by-bool, &&-left, &&-right}
-use Rattle.automaton.proofs.Acyclic.{every-reward, no-reward}
 use Rattle.automaton.proofs.Ratios.{least-ratio, ratio-unique}
 use Rattle.sheet.specs.Questions.{checkOf}
 use Rattle.nodes.specs.Meaning.{meaning, layoutOf}
 use Rattle.walks.specs.Walk.{at, atℤ}
-use Rattle.contract.specs.Questions.{SomeCycle, no-cycle, idle-cycle, all-yes}
+use Rattle.contract.specs.Questions.{EarningCycle, IdleGain, none-earns, idle-gain, all-yes}
 use Rattle.contract.specs.Accepted.{NodeList}
 use Rattle.contract.specs.Plan as Plan
 use Rattle.contract.specs.Plan.{Answer, Buffers, LongEnough, SameLengths, stepOn, startOf, faulty, explored, Planned}
 use Rattle.contract.specs.Answers.{Says, accepts, refuses, AcceptedAs, RefusedAs, Holds, Given}
-use Rattle.contract.specs.Certificate.{Certificate, indexOf, hasRatio, falls, isLasso, showsAccepted, showsRefused, certifies}
+use Rattle.contract.specs.Certificate.{Certificate, indexOf, earns, gainsIdle, hasRatio, holdsAll, isLasso, showsAccepted}
+use Rattle.contract.specs.Certificate.{showsNoneEarns, showsIdleGain, showsRefused, certifies}
 use Rattle.contract.proofs.Graphs.{code-below}
+use Rattle.contract.proofs.Feasible.{none-earning, no-idle-gain}
 use Rattle.contract.proofs.Tests as Tests
 use Rattle.contract.proofs.Tests.{Closed, or-cases, all-at, lowest-is, equal}
 use Rattle.contract.proofs.JustWhen.{refusal-unique}
@@ -34,12 +36,12 @@ module _ (bytes : List ℕ) where
   codes = code-below (layoutOf bytes) (meaning bytes)
 
   -- a lasso whose cycle is as tested
-  lasso : (t : ℤ → ℕ → Bool) (c : Certificate) → isLasso (stepOn bytes) (startOf bytes) t (c .stem) (c .cycle) ≡ true
+  lasso : (t : ℤ → ℕ → Bool) (stem cycle : List ℕ) → isLasso (stepOn bytes) (startOf bytes) t stem cycle ≡ true
       → Closed (stepOn bytes) (startOf bytes) codes t
-  lasso t c = Tests.lasso (stepOn bytes) (startOf bytes) codes t (c .stem) (c .cycle)
+  lasso = Tests.lasso (stepOn bytes) (startOf bytes) codes
 
-  some-cycle : (t : ℤ → ℕ → Bool) → Closed (stepOn bytes) (startOf bytes) codes t → SomeCycle (stepOn bytes) (startOf bytes)
-  some-cycle t o = record { cost = o .cost; reward = o .reward; cycle = o .cycle }
+  earning : (t : ℤ → ℕ → Bool) (o : Closed (stepOn bytes) (startOf bytes) codes t) → 0 < o .reward → EarningCycle (stepOn bytes) (startOf bytes)
+  earning t o h = record { cost = o .cost; reward = o .reward; cycle = o .cycle; earns = h }
 
   accepted : (p : ℤ) (q n : ℕ) (c : Certificate) → checkOf bytes ≡ 0 → showsAccepted (stepOn bytes) (startOf bytes) p q n c ≡ true
       → AcceptedAs bytes p q n
@@ -48,20 +50,41 @@ module _ (bytes : List ℕ) where
       let step = stepOn bytes in
       let start = startOf bytes in
       let all = all-at _ h 0 (omega arith) in
-      let o = lasso (hasRatio p q) c (all-at _ h 5 (omega arith)) in
+      let lowest = lowest-is p q (all-at _ h 3 (omega arith)) in
+      let π : ℕ → ℤ = λ z. atℤ (c .potentials) (indexOf (c .nodes) z) in
+      let feasible = Tests.feasible step start codes (c .nodes) all p q (c .potentials) (all-at _ h 4 (omega arith)) in
+      let o = lasso (hasRatio p q) (c .stem) (c .cycle) (all-at _ h 5 (omega arith)) in
+      let earned : 0 < o .reward = ltb-true 0 (o .reward) (all-at _ (o .passes) 0 (omega arith)) in
       record {
-        judged = λ b l. explored l ok (all-yes refl (Tests.not-many step start codes (c .nodes) all) (some-cycle (hasRatio p q) o)
-            (λ i. Tests.no-cycle step start codes (c .nodes) all (λ r. eqb r 0) (λ r. r ≡ 0) no-reward (λ r e. eq-eqb r 0 e) (c .ranks)
-            (all-at _ h 6 (omega arith)) (i .cost) 0 refl (i .cycle)));
-        ratio = least-ratio step start p q (λ z. atℤ (c .potentials) (indexOf (c .nodes) z))
-            (Tests.feasible step start codes (c .nodes) all p q (c .potentials) (all-at _ h 4 (omega arith)))
-            (lowest-is p q (all-at _ h 3 (omega arith))) (o .cost) (o .reward) (o .cycle)
-            (ltb-true 0 (o .reward) (all-at _ (o .passes) 0 (omega arith)))
+        judged = λ b l. explored l ok (all-yes refl (Tests.not-many step start codes (c .nodes) all) (earning (hasRatio p q) o earned)
+            (no-idle-gain step start p q (lowest .positive) π feasible));
+        ratio = least-ratio step start p q π feasible lowest (o .cost) (o .reward) (o .cycle) earned
             (equal (pos q *ℤ o .cost) (p *ℤ pos (o .reward)) (all-at _ (o .passes) 1 (omega arith)) (all-at _ (o .passes) 2 (omega arith)));
         nodes = c .nodes;
         node-list = subst (λ (k : ℕ). NodeList step start k (c .nodes)) (eqb-true (length (c .nodes)) n (all-at _ h 1 (omega arith)))
             (Tests.node-list step start codes (c .nodes) all (c .walks) (all-at _ h 2 (omega arith)));
       }
+
+  no-earning : (c : Certificate) → holdsAll (stepOn bytes) (startOf bytes) (c .nodes) ≡ true → showsNoneEarns (stepOn bytes) (startOf bytes) c ≡ true
+      → ¬ EarningCycle (stepOn bytes) (startOf bytes)
+  unfolding showsNoneEarns
+  no-earning c all h = none-earning (stepOn bytes) (startOf bytes) (λ z. atℤ (c .potentials) (indexOf (c .nodes) z))
+      (Tests.feasible (stepOn bytes) (startOf bytes) codes (c .nodes) all (pos 1) 0 (c .potentials) h)
+
+  gaining : (c : Certificate) → showsIdleGain (stepOn bytes) (startOf bytes) c ≡ true
+      → EarningCycle (stepOn bytes) (startOf bytes) × IdleGain (stepOn bytes) (startOf bytes)
+  unfolding showsIdleGain
+  gaining c h =
+      let o = lasso earns (c .stem) (c .cycle) (all-at _ h 0 (omega arith)) in
+      let i = lasso gainsIdle (c .idleStem) (c .idleCycle) (all-at _ h 1 (omega arith)) in
+      let e : i .reward ≡ 0 = eqb-true (i .reward) 0 (all-at _ (i .passes) 0 (omega arith)) in (
+        earning earns o (ltb-true 0 (o .reward) (o .passes)),
+        record {
+          cost = i .cost;
+          cycle = subst (ReachableCycle (stepOn bytes) (startOf bytes) (i .cost)) e (i .cycle);
+          gains = lt-of (i .cost) (pos 0) (less (i .cost) (pos 0) (all-at _ (i .passes) 1 (omega arith)));
+        },
+      )
 
   refused : (r : ℕ) (c : Certificate) → checkOf bytes ≡ 0 → showsRefused (stepOn bytes) (startOf bytes) r c ≡ true → RefusedAs bytes r
   unfolding showsRefused
@@ -69,22 +92,15 @@ module _ (bytes : List ℕ) where
       let step = stepOn bytes in
       let start = startOf bytes in
       let all = all-at _ h 0 (omega arith) in
-      let fall = falls step start (λ r. true) (c .nodes) (c .ranks) in
-      let idle = isLasso step start (λ cost r. eqb r 0) (c .stem) (c .cycle) in
+      let none = showsNoneEarns step start c in
+      let gain = showsIdleGain step start c in
       let few = Tests.not-many step start codes (c .nodes) all in
-      or-cases (eqb r 13 && fall) (eqb r 14 && idle) (all-at _ h 1 (omega arith))
-      (λ t. let e : r ≡ 13 = eqb-true r 13 (&&-left (eqb r 13) fall t) in record {
-        some-number = omega arith;
-        judged = λ b l. explored l ok (no-cycle e few (λ o. Tests.no-cycle step start codes (c .nodes) all (λ r. true) (λ r. Unit {0}) every-reward
-            (λ r u. refl) (c .ranks) (&&-right (eqb r 13) fall t) (o .cost) (o .reward) tt (o .cycle)));
-      })
-      (λ t. let e : r ≡ 14 = eqb-true r 14 (&&-left (eqb r 14) idle t) in
-      let o = lasso (λ cost r. eqb r 0) c (&&-right (eqb r 14) idle t) in
-      record {
-        some-number = omega arith;
-        judged = λ b l. explored l ok (idle-cycle e few (some-cycle (λ cost r. eqb r 0) o)
-            (record { cost = o .cost; cycle = subst (ReachableCycle step start (o .cost)) (eqb-true (o .reward) 0 (o .passes)) (o .cycle) }));
-      })
+      or-cases (eqb r 13 && none) (eqb r 14 && gain) (all-at _ h 1 (omega arith))
+      (λ t. let e : r ≡ 13 = eqb-true r 13 (&&-left (eqb r 13) none t) in
+      record { some-number = omega arith; judged = λ b l. explored l ok (none-earns e few (no-earning c all (&&-right (eqb r 13) none t))) })
+      (λ t. let e : r ≡ 14 = eqb-true r 14 (&&-left (eqb r 14) gain t) in
+      let k = gaining c (&&-right (eqb r 14) gain t) in
+      record { some-number = omega arith; judged = λ b l. explored l ok (idle-gain e few (k .0) (k .1)) })
 
   pub certified : (a : Says) (c : Certificate) → certifies bytes a c ≡ true → Holds bytes a
   unfolding certifies

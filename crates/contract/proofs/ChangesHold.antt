@@ -21,8 +21,8 @@ use Rattle.sheet.specs.Questions.{each, firstOf, bitGood, mapCode, fieldGood, f
 use Rattle.sheet.specs.Questions.{startCode, recordsCode, checkOf}
 use Rattle.nodes.specs.Numbers.{clocksFrom, number, listFrom, nodeOf, stepBy}
 use Rattle.nodes.specs.Meaning.{meaning}
-use Rattle.contract.specs.Certificate.{Certificate, allTrue, indexOf, rises, isLowest, eachStep, holdsAll, keeps, falls, isLasso, passed, isPassed}
-use Rattle.contract.specs.Certificate.{showsAccepted, showsRefused, certifies}
+use Rattle.contract.specs.Certificate.{Certificate, allTrue, indexOf, rises, isLowest, eachStep, holdsAll, keeps, isLasso, passed, isPassed}
+use Rattle.contract.specs.Certificate.{showsAccepted, showsNoneEarns, showsIdleGain, showsRefused, certifies}
 use Rattle.contract.proofs.Certificates.{certified}
 use Rattle.contract.specs.Changes.{Row, AllHold, changes}
 
@@ -37,30 +37,34 @@ heights : ℕ → ℕ → ℕ → List ℤ
 heights w h zero = pos (w * h) ∷ []
 heights w h (suc k) = pos (w * h) ∷ pos (w * suc h) ∷ pos (w * h) ∷ heights w (suc h) k
 
--- ranks that fall as time goes on
-left : ℕ → List ℕ
-left zero = 0 ∷ []
-left (suc k) = (3 * suc k) ∷ (3 * k + 1) ∷ (3 * k + 2) ∷ left k
-
 -- the walk up: a move, a unit and a move for each unit
 upward : ℕ → List ℕ
 upward zero = []
 upward (suc k) = 33 ∷ 32 ∷ 33 ∷ upward k
 
--- the first n of these nodes, and a cycle from the start
-abbrev climbing : ℕ → ℕ → ℕ → List ℕ → Certificate
-climbing n k w cycle = record {
+-- the first n of these nodes, and from the start a cycle that earns and one without reward that makes money
+abbrev showing : ℕ → ℕ → ℕ → List ℕ → List ℕ → Certificate
+showing n k w cycle idle = record {
   nodes = take n (ladder 0 k);
   potentials = take n (heights w 0 k);
-  ranks = take n (left k);
   stem = [];
   cycle = cycle;
+  idleStem = [];
+  idleCycle = idle;
   walks = upward k ∷ [];
 }
 
+-- accepted
+abbrev climbing : ℕ → ℕ → ℕ → List ℕ → Certificate
+climbing n k w cycle = showing n k w cycle []
+
+-- 13: no step earns, so 0 will do for every potential
+abbrev idling : ℕ → ℕ → Certificate
+idling n k = showing n k 0 [] []
+
 -- where the check refuses the sheet
 abbrev nothing : Certificate
-nothing = record { nodes = []; potentials = []; ranks = []; stem = []; cycle = []; walks = [] }
+nothing = record { nodes = []; potentials = []; stem = []; cycle = []; idleStem = []; idleCycle = []; walks = [] }
 
 -- a unit of delay, and the edge with this code from clock 1
 abbrev around : ℕ → List ℕ
@@ -71,22 +75,25 @@ certificates : List Certificate
 certificates = climbing 7 2 1 (around 0)
     ∷ climbing 7 2 1 (33 ∷ 32 ∷ 33 ∷ 33 ∷ 0 ∷ [])
     ∷ climbing 6 2 1 (around 0)
-    ∷ climbing 3 1 1 []
-    ∷ climbing 1 0 1 []
+    ∷ idling 3 1
+    ∷ idling 1 0
     ∷ nothing
     ∷ climbing 7 2 2 (around 0)
     ∷ climbing 7 2 1 (around 1)
-    ∷ climbing 7 2 1 []
-    ∷ climbing 7 2 1 (around 0)
+    ∷ idling 7 2
+    ∷ idling 7 2
     ∷ nothing
     ∷ nothing
     ∷ climbing 37 12 1 (around 0)
     ∷ nothing
-    ∷ climbing 4 1 1 []
+    ∷ idling 4 1
     ∷ climbing 7 2 1 (around 0)
     ∷ nothing
     ∷ nothing
     ∷ nothing
+    ∷ climbing 7 2 1 (around 0)
+    ∷ showing 7 2 0 (around 0) (around 1)
+    ∷ idling 7 2
     ∷ []
 
 -- each row has its certificate
@@ -96,8 +103,8 @@ allCertified (r ∷ rows) [] = false
 allCertified (r ∷ rows) (c ∷ cs) = certifies (r .bytes) (r .says) c && allCertified rows cs
 
 computed : allCertified changes certificates ≡ true
-unfolding allCertified certificates ladder heights left upward changes certifies
-    showsAccepted showsRefused isPassed passed isLasso falls keeps holdsAll eachStep isLowest rises indexOf allTrue
+unfolding allCertified certificates ladder heights upward changes certifies
+    showsAccepted showsNoneEarns showsIdleGain showsRefused isPassed passed isLasso keeps holdsAll eachStep isLowest rises indexOf allTrue
     meaning stepBy nodeOf listFrom number clocksFrom
     checkOf recordsCode startCode edgeCode locationCode endsCode boundsCode fieldsCode fieldGood mapCode bitGood firstOf each
     recordAt recordLength fieldAt valueAt fieldPlace inRange costInRange permittedField fieldOf placeOf signedOf

@@ -1,6 +1,6 @@
 -- The checklist: what the planner's code has in hand where it accepts. Of it `Exits.accepted` makes the whole contract, demand 3 included.
--- The other ways out have laws in Exits too: short-buffer (1), faulty-sheet (2 to 11), too-many-nodes (12), no-cycle-reachable (13) and
--- cycle-earns-nothing (14).
+-- The other ways out have laws in Exits too: short-buffer (1), faulty-sheet (2 to 11), too-many-nodes (12), no-earning-cycle (13) and
+-- idle-cycle-gains (14).
 use mathlib.Core.Path.{_≡_}
 use mathlib.Core.List.{List, _++_}
 use Prim.Native.Nat.{ℕ, _+_, _≤_, _<_}
@@ -10,7 +10,6 @@ use Rattle.integers.specs.Lowest.{Lowest}
 use Rattle.sheet.specs.Questions.{checkOf}
 use Rattle.walks.specs.Walk.{at, atℤ}
 use Rattle.walks.specs.Weight.{weightOf, sum, total, PotentialOrMark}
-use Rattle.walks.specs.Cycles.{EachEarns}
 use Rattle.walks.specs.Lasso.{ArcLasso}
 use Rattle.contract.specs.Plan.{Buffers, LongEnough, SameLengths, stepOn, startOf}
 use Rattle.contract.specs.Explored.{Found, Explored}
@@ -28,11 +27,11 @@ pub record InHand (bytes : List ℕ) (before after : Buffers) (g : Found) (p : �
   -- so is question 12, since exploring ended. Exploring by the decoded sheet: `DecodedSheets.explored-read`. Where the
   -- lists are longer than m, g is the cut one: `Graphs.explored-cut`. That the search takes its lists as a graph: `Graphs.graph`.
   pub explored : Explored (stepOn bytes) (startOf bytes) g
-  -- so is question 13, since there is the lasso; and question 14
-  pub earns : EachEarns (g .from) (g .to) (g .m) (g .reward)
-  -- the potentials at p/q
+  -- so is question 13: the lasso's cycle earns
+  pub earns : 0 < total (at (g .reward)) cycle
+  -- so is question 14, by the potentials at p/q: `Feasible.no-idle-gain`
   pub potentials : (v : ℕ) → v < g .n → PotentialOrMark (g .from) (g .to) (g .m) (weightAt p q g) v (atℤ D v)
-  -- p/q is the ratio of the lasso's cycle, in lowest terms. A cycle turned has the same: `Graphs.exact-turned`.
+  -- p/q is the ratio of the lasso's cycle, in lowest terms. A cycle turned costs and earns the same: `Graphs.cost-turned, reward-turned`.
   pub lowest : Lowest p q
   pub exact : pos q *ℤ sum (atℤ (g .cost)) cycle ≡ p *ℤ pos (total (at (g .reward)) cycle)
   -- a stem from node 0 and a cycle at its end, whose arcs leave distinct nodes: the law `lasso` of walks. That s + m ≤ n follows.

@@ -16,8 +16,8 @@ use Rattle.nodes.specs.Meaning.{meaning, layoutOf}
 use Rattle.nodes.proofs.NumberLaws.{no-loop-below-numbers}
 use Rattle.nodes.proofs.CheckedLaws.{sound, room}
 use Rattle.nodes.proofs.CheckNumberLaws.{check-low}
-use Rattle.walks.specs.Cycles.{Acyclic, Idle}
-use Rattle.contract.specs.Questions.{TooMany, IdleCycle, too-many, no-cycle, idle-cycle, all-yes}
+use Rattle.walks.specs.Cycles.{EarningArcs, NoneEarns, IdleGainArcs}
+use Rattle.contract.specs.Questions.{TooMany, too-many, none-earns, idle-gain, all-yes}
 use Rattle.contract.specs.Accepted.{Accepted}
 use Rattle.contract.specs.Plan.{refusedPlan, Buffers, zeros, LongEnough, SameLengths, stepOn, startOf, Judged, too-short, faulty, explored, Planned}
 use Rattle.contract.specs.Explored.{Found, Explored, Overfull}
@@ -25,6 +25,7 @@ use Rattle.contract.proofs.Checklist.{InHand}
 use Rattle.contract.proofs.Counts as Counts
 use Rattle.contract.proofs.Arcs as Arcs
 use Rattle.contract.proofs.Searches as Searches
+use Rattle.contract.proofs.Feasible.{no-idle-gain}
 use Rattle.contract.proofs.Lassos as Lassos
 use Rattle.contract.proofs.Accepting as Accepting
 
@@ -83,14 +84,15 @@ module _ (bytes : List ℕ) (b : Buffers) where
         few = Counts.few-listed (stepOn bytes) (startOf bytes) (g .node) (g .n) (x .few) (Arcs.listed x)
 
         -- question 13
-        pub no-cycle-reachable : Acyclic (g .from) (g .to) (g .m) → Planned bytes b (zeros b) (refusedPlan 13)
-        no-cycle-reachable none = set-to-zero bytes b 13 (omega arith)
-            (explored long checked (no-cycle refl few (Searches.no-cycle x none)))
+        pub no-earning-cycle : NoneEarns (g .from) (g .to) (g .m) (g .reward) → Planned bytes b (zeros b) (refusedPlan 13)
+        no-earning-cycle none = set-to-zero bytes b 13 (omega arith)
+            (explored long checked (none-earns refl few (Searches.none-earns x none)))
 
         -- question 14
-        pub cycle-earns-nothing : Idle (g .from) (g .to) (g .m) (g .reward) → Planned bytes b (zeros b) (refusedPlan 14)
-        cycle-earns-nothing o = set-to-zero bytes b 14 (omega arith)
-            (explored long checked (idle-cycle refl few (Searches.some-cycle x (o .arcs) (o .cycle)) (Searches.idle-cycle x o)))
+        pub idle-cycle-gains : EarningArcs (g .from) (g .to) (g .m) (g .reward) → IdleGainArcs (g .from) (g .to) (g .m) (g .cost) (g .reward)
+            → Planned bytes b (zeros b) (refusedPlan 14)
+        idle-cycle-gains e o = set-to-zero bytes b 14 (omega arith)
+            (explored long checked (idle-gain refl few (Searches.earning x e) (Searches.idle-gain x o)))
 
 -- accepted
 module _ (bytes : List ℕ) (before after : Buffers) (g : Found) (p : ℤ) (q : ℕ) (D : List ℤ) (order stem cycle : List ℕ)
@@ -108,12 +110,6 @@ module _ (bytes : List ℕ) (before after : Buffers) (g : Found) (p : ℤ) (q : 
   reachable-cycle = Arcs.cycle-steps x (h .lasso .hub) cycle
       (record { path = stem; walk = h .lasso .stem }) (record { some = h .lasso .some; walk = h .lasso .cycle })
 
-  none-idle : ¬ IdleCycle step start
-  none-idle = Searches.none-idle x (h .earns)
-
-  earns : 0 < Arcs.rewardOf g cycle
-  earns = Accepting.earns x none-idle (Arcs.costOf g cycle) (Arcs.rewardOf g cycle) reachable-cycle
-
   short : length stem + length cycle ≤ g .n
   short = Lassos.short x stem cycle (h .lasso)
 
@@ -122,12 +118,12 @@ module _ (bytes : List ℕ) (before after : Buffers) (g : Found) (p : ℤ) (q : 
 
   plan-accepted : Accepted step start p q (g .n) (length stem) (length cycle) (after .nodes) (after .potentials) (after .steps)
   plan-accepted = record {
-    ratio = least-ratio step start p q (Accepting.ϕ g D) feasible (h .lowest) (Arcs.costOf g cycle) (Arcs.rewardOf g cycle) reachable-cycle earns (h .exact);
+    ratio = least-ratio step start p q (Accepting.ϕ g D) feasible (h .lowest) (Arcs.costOf g cycle) (Arcs.rewardOf g cycle) reachable-cycle (h .earns) (h .exact);
     node-list = Accepting.node-list x order (after .nodes) (h .sorted) (h .nodes-rest);
     potential-list = Accepting.potential-list x p q D (h .potentials) order (after .nodes) (h .sorted)
         (after .potentials) (h .permuted) (h .potentials-rest);
     lasso = Lassos.lasso-steps x stem cycle (h .lasso) (after .steps)
-        (omega (arith, short, x .few, h .long .steps, h .lengths .steps)) (h .codes) p q earns (h .exact) (h .steps-rest);
+        (omega (arith, short, x .few, h .long .steps, h .lengths .steps)) (h .codes) p q (h .earns) (h .exact) (h .steps-rest);
     short = short;
   }
 
@@ -135,7 +131,8 @@ module _ (bytes : List ℕ) (before after : Buffers) (g : Found) (p : ℤ) (q : 
   accepted = record {
     judged = explored (h .long) (h .checked) (all-yes refl
         (Counts.few-listed step start (g .node) (g .n) (x .few) (Arcs.listed x))
-        (record { cost = Arcs.costOf g cycle; reward = Arcs.rewardOf g cycle; cycle = reachable-cycle }) none-idle);
+        (record { cost = Arcs.costOf g cycle; reward = Arcs.rewardOf g cycle; cycle = reachable-cycle; earns = h .earns })
+        (no-idle-gain step start p q (h .lowest .positive) (Accepting.ϕ g D) feasible));
     numbers = λ k. absurd (omega arith);
     kept = λ k l. absurd (omega arith);
     cleared = λ k. absurd (omega arith);

@@ -5,7 +5,7 @@ use mathlib.Core.List.{List, _++_}
 use mathlib.Core.Option.{Option, some}
 use Prim.Native.Nat.{ℕ, _≤_, _<_}
 use native.Mathlib.Omega.{arith}
-use lib.IntN.{ℤ, pos, natAbs, _*ℤ_, +ℤ-comm}
+use lib.IntN.{pos, natAbs, +ℤ-comm}
 use lib.ListN.{length, take}
 use lib.Seq.{getD-take, length-take-le}
 use borrow.Author.Tests.{ltb-true}
@@ -137,7 +137,3 @@ module _ (g : Found) (a b : List ℕ) where
 
   pub reward-turned : rewardOf g (b ++ a) ≡ rewardOf g (a ++ b)
   reward-turned = omega (arith, total-append (at (g .reward)) a b, total-append (at (g .reward)) b a)
-
-  pub exact-turned : (p : ℤ) (q : ℕ) → pos q *ℤ costOf g (a ++ b) ≡ p *ℤ pos (rewardOf g (a ++ b))
-      → pos q *ℤ costOf g (b ++ a) ≡ p *ℤ pos (rewardOf g (b ++ a))
-  exact-turned p q e = rw (cost-turned, reward-turned) e

@@ -13,7 +13,7 @@ use Rattle.automaton.proofs.Tests.{clash}
 use Rattle.automaton.specs.Priced.{Priced}
 use Rattle.sheet.specs.Questions.{checkOf, checkNumbers}
 use Rattle.nodes.proofs.CheckNumberLaws.{check-number, passes, absent}
-use Rattle.contract.specs.Questions.{TooMany, SomeCycle, IdleCycle, Verdict, too-many, no-cycle, idle-cycle, all-yes}
+use Rattle.contract.specs.Questions.{TooMany, EarningCycle, IdleGain, Verdict, too-many, none-earns, idle-gain, all-yes}
 use Rattle.contract.specs.Plan.{Buffers, LongEnough, SameLengths, stepOn, startOf, Judged, too-short, faulty, explored}
 use Rattle.contract.specs.Conditions.{planNumbers, Passed, OnItsCondition}
 
@@ -21,64 +21,64 @@ use Rattle.contract.specs.Conditions.{planNumbers, Passed, OnItsConditio
 module _ (step : ℕ → ℕ → Option (Priced ℕ)) (start r : ℕ) where
   verdict-12 : TooMany step start → Verdict step start r → r ≡ 12
   verdict-12 t (too-many e h) = e
-  verdict-12 t (no-cycle e h k) = absurd (h t)
-  verdict-12 t (idle-cycle e h k l) = absurd (h t)
+  verdict-12 t (none-earns e h k) = absurd (h t)
+  verdict-12 t (idle-gain e h k l) = absurd (h t)
   verdict-12 t (all-yes e h k l) = absurd (h t)
 
-  verdict-13 : ¬ TooMany step start → ¬ SomeCycle step start → Verdict step start r → r ≡ 13
+  verdict-13 : ¬ TooMany step start → ¬ EarningCycle step start → Verdict step start r → r ≡ 13
   verdict-13 t c (too-many e h) = absurd (t h)
-  verdict-13 t c (no-cycle e h k) = e
-  verdict-13 t c (idle-cycle e h k l) = absurd (c k)
+  verdict-13 t c (none-earns e h k) = e
+  verdict-13 t c (idle-gain e h k l) = absurd (c k)
   verdict-13 t c (all-yes e h k l) = absurd (c k)
 
-  verdict-14 : ¬ TooMany step start → SomeCycle step start → IdleCycle step start → Verdict step start r → r ≡ 14
+  verdict-14 : ¬ TooMany step start → EarningCycle step start → IdleGain step start → Verdict step start r → r ≡ 14
   verdict-14 t c i (too-many e h) = absurd (t h)
-  verdict-14 t c i (no-cycle e h k) = absurd (k c)
-  verdict-14 t c i (idle-cycle e h k l) = e
+  verdict-14 t c i (none-earns e h k) = absurd (k c)
+  verdict-14 t c i (idle-gain e h k l) = e
   verdict-14 t c i (all-yes e h k l) = absurd (l i)
 
-  verdict-0 : ¬ TooMany step start → SomeCycle step start → ¬ IdleCycle step start → Verdict step start r → r ≡ 0
+  verdict-0 : ¬ TooMany step start → EarningCycle step start → ¬ IdleGain step start → Verdict step start r → r ≡ 0
   verdict-0 t c i (too-many e h) = absurd (t h)
-  verdict-0 t c i (no-cycle e h k) = absurd (k c)
-  verdict-0 t c i (idle-cycle e h k l) = absurd (i l)
+  verdict-0 t c i (none-earns e h k) = absurd (k c)
+  verdict-0 t c i (idle-gain e h k l) = absurd (i l)
   verdict-0 t c i (all-yes e h k l) = e
 
   -- and back
   of-12 : r ≡ 12 → Verdict step start r → TooMany step start
   of-12 q (too-many e h) = h
-  of-12 q (no-cycle e h k) = absurd (omega arith)
-  of-12 q (idle-cycle e h k l) = absurd (omega arith)
+  of-12 q (none-earns e h k) = absurd (omega arith)
+  of-12 q (idle-gain e h k l) = absurd (omega arith)
   of-12 q (all-yes e h k l) = absurd (omega arith)
 
-  of-13 : r ≡ 13 → Verdict step start r → (¬ TooMany step start) × (¬ SomeCycle step start)
+  of-13 : r ≡ 13 → Verdict step start r → (¬ TooMany step start) × (¬ EarningCycle step start)
   of-13 q (too-many e h) = absurd (omega arith)
-  of-13 q (no-cycle e h k) = (h, k)
-  of-13 q (idle-cycle e h k l) = absurd (omega arith)
+  of-13 q (none-earns e h k) = (h, k)
+  of-13 q (idle-gain e h k l) = absurd (omega arith)
   of-13 q (all-yes e h k l) = absurd (omega arith)
 
-  of-14 : r ≡ 14 → Verdict step start r → (¬ TooMany step start) × SomeCycle step start × IdleCycle step start
+  of-14 : r ≡ 14 → Verdict step start r → (¬ TooMany step start) × EarningCycle step start × IdleGain step start
   of-14 q (too-many e h) = absurd (omega arith)
-  of-14 q (no-cycle e h k) = absurd (omega arith)
-  of-14 q (idle-cycle e h k l) = (h, k, l)
+  of-14 q (none-earns e h k) = absurd (omega arith)
+  of-14 q (idle-gain e h k l) = (h, k, l)
   of-14 q (all-yes e h k l) = absurd (omega arith)
 
-  of-0 : r ≡ 0 → Verdict step start r → (¬ TooMany step start) × SomeCycle step start × (¬ IdleCycle step start)
+  of-0 : r ≡ 0 → Verdict step start r → (¬ TooMany step start) × EarningCycle step start × (¬ IdleGain step start)
   of-0 q (too-many e h) = absurd (omega arith)
-  of-0 q (no-cycle e h k) = absurd (omega arith)
-  of-0 q (idle-cycle e h k l) = absurd (omega arith)
+  of-0 q (none-earns e h k) = absurd (omega arith)
+  of-0 q (idle-gain e h k l) = absurd (omega arith)
   of-0 q (all-yes e h k l) = (h, k, l)
 
   -- it is one of these four numbers
   verdict-number : (t : ℕ → Bool) → t 12 ≡ true → t 13 ≡ true → t 14 ≡ true → t 0 ≡ true → Verdict step start r → t r ≡ true
   verdict-number t a b c d (too-many e h) = ap t e ∙ a
-  verdict-number t a b c d (no-cycle e h k) = ap t e ∙ b
-  verdict-number t a b c d (idle-cycle e h k l) = ap t e ∙ c
+  verdict-number t a b c d (none-earns e h k) = ap t e ∙ b
+  verdict-number t a b c d (idle-gain e h k l) = ap t e ∙ c
   verdict-number t a b c d (all-yes e h k l) = ap t e ∙ d
 
 verdict-unique : (step : ℕ → ℕ → Option (Priced ℕ)) (start r t : ℕ) → Verdict step start r → Verdict step start t → r ≡ t
 verdict-unique step start r t (too-many e h) w = e ∙ sym (verdict-12 step start t h w)
-verdict-unique step start r t (no-cycle e h k) w = e ∙ sym (verdict-13 step start t h k w)
-verdict-unique step start r t (idle-cycle e h k l) w = e ∙ sym (verdict-14 step start t h k l w)
+verdict-unique step start r t (none-earns e h k) w = e ∙ sym (verdict-13 step start t h k w)
+verdict-unique step start r t (idle-gain e h k l) w = e ∙ sym (verdict-14 step start t h k l w)
 verdict-unique step start r t (all-yes e h k l) w = e ∙ sym (verdict-0 step start t h k l w)
 
 long-alike : (a b : Buffers) → SameLengths a b → LongEnough a → LongEnough b

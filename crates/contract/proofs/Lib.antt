@@ -3,6 +3,7 @@ pub mod Indices
 pub mod Arcs
 pub mod Counts
 pub mod Searches
+pub mod Feasible
 pub mod Lassos
 pub mod Accepting
 pub mod Exits
@@ -15,3 +16,4 @@ pub mod Tests
 pub mod Certificates
 pub mod ChangesHold
 pub mod OnNodes
+pub mod IdleLoops

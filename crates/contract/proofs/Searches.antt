@@ -2,7 +2,7 @@
 use mathlib.Core.Path.{_≡_, sym, ap, ap₂, _∙_, subst}
 use mathlib.Core.List.{List}
 use mathlib.Core.Option.{Option}
-use Prim.Native.Nat.{ℕ, _+_, _*_, _≤_, _<_}
+use Prim.Native.Nat.{ℕ, _*_, _<_}
 use native.Mathlib.Omega.{arith}
 use lib.IntN.{ℤ, pos, negℤ, _+ℤ_, _*ℤ_, *ℤ-zero, +ℤ-idr}
 use lib.ListN.{length}
@@ -14,9 +14,9 @@ use Rattle.automaton.specs.Weights.{weight, Potential}
 use Rattle.walks.specs.Walk as Graph
 use Rattle.walks.specs.Walk.{at}
 use Rattle.walks.specs.Weight.{sum, LeastWeight}
-use Rattle.walks.specs.Cycles.{SimpleCycle, Acyclic, EachEarns, Idle}
+use Rattle.walks.specs.Cycles.{SimpleCycle, EarningArcs, NoneEarns, IdleGainArcs}
 use Rattle.walks.proofs.Weights.{weight-sum}
-use Rattle.contract.specs.Questions.{SomeCycle, IdleCycle}
+use Rattle.contract.specs.Questions.{EarningCycle, IdleGain}
 use Rattle.contract.specs.Explored.{Found, Explored}
 use Rattle.contract.proofs.Checklist.{weightAt}
 use Rattle.contract.proofs.Arcs.{costOf, rewardOf, codesOf, Route, start-route, start-walk, cycle-steps, cycle-arcs}
@@ -46,19 +46,21 @@ weighed p q g l = weight-sum (pos q) (negℤ p) (pos 0) (g .cost) (g .reward) l
 -- ---- questions 13 and 14
 
 module _ {step : ℕ → ℕ → Option (Priced ℕ)} {start : ℕ} {g : Found} (x : Explored step start g) where
-  pub no-cycle : Acyclic (g .from) (g .to) (g .m) → ¬ SomeCycle step start
-  no-cycle none o = let k = cycle-arcs x (o .cost) (o .reward) (o .cycle) in none (k .node) (k .arcs) (k .reached) (k .cycle)
+  found : (l : List ℕ) → SimpleCycle (g .from) (g .to) (g .m) l → ReachableCycle step start (costOf g l) (rewardOf g l)
+  found l o = cycle-steps x (o .hub) l (o .reached) (o .cycle)
 
-  pub none-idle : EachEarns (g .from) (g .to) (g .m) (g .reward) → ¬ IdleCycle step start
-  none-idle earns o = let k = cycle-arcs x (o .cost) 0 (o .cycle) in omega (arith, earns (k .node) (k .arcs) (k .reached) (k .cycle), k .reward)
+  pub none-earns : NoneEarns (g .from) (g .to) (g .m) (g .reward) → ¬ EarningCycle step start
+  none-earns none o = let k = cycle-arcs x (o .cost) (o .reward) (o .cycle) in
+      omega (arith, none (k .node) (k .arcs) (k .reached) (k .cycle), k .reward, o .earns)
 
-  pub some-cycle : (l : List ℕ) → SimpleCycle (g .from) (g .to) (g .m) l → SomeCycle step start
-  some-cycle l o = record { cost = costOf g l; reward = rewardOf g l; cycle = cycle-steps x (o .hub) l (o .reached) (o .cycle) }
+  pub earning : EarningArcs (g .from) (g .to) (g .m) (g .reward) → EarningCycle step start
+  earning o = record { cost = costOf g (o .arcs); reward = rewardOf g (o .arcs); cycle = found (o .arcs) (o .cycle); earns = o .earns }
 
-  pub idle-cycle : Idle (g .from) (g .to) (g .m) (g .reward) → IdleCycle step start
-  idle-cycle o = let c = o .cycle in record {
+  pub idle-gain : IdleGainArcs (g .from) (g .to) (g .m) (g .cost) (g .reward) → IdleGain step start
+  idle-gain o = record {
     cost = costOf g (o .arcs);
-    cycle = subst (ReachableCycle step start (costOf g (o .arcs))) (o .no-reward) (cycle-steps x (c .hub) (o .arcs) (c .reached) (c .cycle));
+    cycle = subst (ReachableCycle step start (costOf g (o .arcs))) (o .no-reward) (found (o .arcs) (o .cycle));
+    gains = o .gains;
   }
 
   -- ---- least weights are potentials

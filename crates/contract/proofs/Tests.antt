@@ -9,11 +9,11 @@ use native.Mathlib.Nat.{le-of-suc-le-suc, mod-eq-zero-of-dvd, le-of-dvd}
 use native.Mathlib.Omega.{arith}
 use borrow.Author.Tests.{ltb-true, leb-true, eqb-true, eq-eqb, not-true}
 use lib.Dec.{eqb, ltb}
-use lib.IntN.{ℤ, pos, natAbs, _+ℤ_}
+use lib.IntN.{ℤ, natAbs, _+ℤ_}
 use lib.ListN.{length, getD}
 use lib.Signed.{leZ}
 use Rattle.integers.specs.Lowest.{Lowest}
-use Rattle.integers.proofs.Parts.{ext, le-of, lt-of, at-most}
+use Rattle.integers.proofs.Parts.{ext, le-of, at-most}
 use Rattle.automaton.specs.Tests.{occurs, every}
 use Rattle.automaton.specs.Priced.{Priced, chain}
 use Rattle.automaton.specs.Walks.{Walk, Reachable, ReachableCycle}
@@ -21,14 +21,13 @@ use Rattle.automaton.specs.Weights.{weight, Feasible}
 use Rattle.automaton.proofs.Tests.{&&-left, &&-right, &&-intro, clash}
 use Rattle.automaton.proofs.Lists.{occurs-cases}
 use Rattle.automaton.proofs.Walks.{reach-start, reach-step, reach-holds}
-use Rattle.automaton.proofs.Acyclic as Acyclic
 use Rattle.sheet.specs.Questions.{each}
 use Rattle.nodes.proofs.QuestionLaws.{each-at}
 use Rattle.walks.specs.Walk.{at, atℤ}
 use Rattle.contract.specs.Questions.{TooMany}
 use Rattle.contract.specs.Accepted.{Listed, NodeList}
 use Rattle.contract.specs.Certificate.{allTrue, indexOf, lists, rises, isLowest, ifAllowed, isAllowed, thence, eachStep, holdsAll}
-use Rattle.contract.specs.Certificate.{keeps, falls, isLasso, passed, isPassed}
+use Rattle.contract.specs.Certificate.{keeps, isLasso, passed, isPassed}
 use Rattle.contract.proofs.Indices.{index-is}
 use Rattle.contract.proofs.Counts.{few-listed}
 
@@ -148,7 +147,7 @@ module _ (step : ℕ → ℕ → Option (Priced ℕ)) (start : ℕ) (codes : (x 
     at-reachable t h u code v r e = each-step nodes t h (indexOf nodes u) (index-below u r) code v
         (ap (λ (x : ℕ). step x code) (index-is nodes u (index-below u r)) ∙ e)
 
-    -- ---- potentials and ranks
+    -- ---- potentials
     pub feasible : (p : ℤ) (q : ℕ) (potentials : List ℤ) → keeps step start p q nodes potentials ≡ true
         → Feasible step start p q (λ z. atℤ potentials (indexOf nodes z))
     unfolding keeps
@@ -157,15 +156,6 @@ module _ (step : ℕ → ℕ → Option (Priced ℕ)) (start : ℕ) (codes : (x 
           let b : ℤ = atℤ potentials (indexOf nodes u) +ℤ weight p q (v .cost) (v .reward) in
           le-of a b (at-most a b (at-reachable _ h u code v r e)));
     }
-
-    module _ (test : ℕ → Bool) (kind : ℕ → Type 0) (splits : Acyclic.Splits kind) (passes : (r : ℕ) → kind r → test r ≡ true) where
-      pub no-cycle : (ranks : List ℕ) → falls step start test nodes ranks ≡ true → (c : ℤ) (r : ℕ) → kind r → ReachableCycle step start c r → ⊥
-      unfolding falls
-      no-cycle ranks h = Acyclic.no-cycle step start kind splits (λ z. pos (at ranks (indexOf nodes z)))
-          (λ u code v r e k. let a : ℕ = at ranks (indexOf nodes (v .to)) in let b : ℕ = at ranks (indexOf nodes u) in
-          or-cases (not (test (v .reward))) (ltb a b) (at-reachable _ h u code v r e)
-          (λ t. clash (passes (v .reward) k) (not-true (test (v .reward)) t))
-          (λ t. lt-of (pos a) (pos b) (omega (arith, ltb-true a b t))))
 
     pub node-list : (walks : List (List ℕ)) → every (λ i. isPassed step start walks) nodes ≡ true → NodeList step start (length nodes) nodes
     node-list walks h = record {

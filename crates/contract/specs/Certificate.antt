@@ -7,7 +7,7 @@ use Prim.Native.Nat.{ℕ, suc, _-_, _%_}
 use lib.Dec.{eqb, leb, ltb}
 use lib.IntN.{ℤ, pos, natAbs, _+ℤ_, _*ℤ_}
 use lib.ListN.{length}
-use lib.Signed.{leZ}
+use lib.Signed.{leZ, ltZ}
 use Rattle.automaton.specs.Tests.{occurs, every}
 use Rattle.automaton.specs.Priced.{Priced, chain}
 use Rattle.automaton.specs.Weights.{weight}
@@ -18,13 +18,15 @@ use Rattle.contract.specs.Answers.{Says, accepts, refuses}
 
 -- what is not asked for is left empty
 pub record Certificate : Type 0 where
-  -- the reachable nodes, and in the same order their potentials, and ranks that fall along steps
+  -- the reachable nodes, and in the same order their potentials
   pub nodes : List ℕ
   pub potentials : List ℤ
-  pub ranks : List ℕ
-  -- the lasso
+  -- the lasso, whose cycle earns
   pub stem : List ℕ
   pub cycle : List ℕ
+  -- a lasso whose cycle earns nothing and costs less than 0
+  pub idleStem : List ℕ
+  pub idleCycle : List ℕ
   -- walks from the start that pass every listed node
   pub walks : List (List ℕ)
 
@@ -47,9 +49,17 @@ rises l = each (length l - 1) (λ i. ltb (at l i) (at l (suc i)))
 unfoldable pub isLowest : ℤ → ℕ → Bool
 isLowest p q = allTrue (ltb 0 q ∷ each (suc q) (λ d. eqb d 1 || not (eqb (natAbs p % d) 0 && eqb (q % d) 0)) ∷ [])
 
--- a cycle with this cost and reward earns, and has the ratio p/q
+-- a cycle with this cost and reward earns
+abbrev pub earns : ℤ → ℕ → Bool
+earns c r = ltb 0 r
+
+-- it earns nothing and costs less than 0
+abbrev pub gainsIdle : ℤ → ℕ → Bool
+gainsIdle c r = allTrue (eqb r 0 ∷ ltZ c (pos 0) ∷ [])
+
+-- it earns, and has the ratio p/q
 abbrev pub hasRatio : ℤ → ℕ → ℤ → ℕ → Bool
-hasRatio p q c r = allTrue (ltb 0 r ∷ leZ (pos q *ℤ c) (p *ℤ pos r) ∷ leZ (p *ℤ pos r) (pos q *ℤ c) ∷ [])
+hasRatio p q c r = allTrue (earns c r ∷ leZ (pos q *ℤ c) (p *ℤ pos r) ∷ leZ (p *ℤ pos r) (pos q *ℤ c) ∷ [])
 
 -- does a step that is allowed pass the test?
 abbrev pub ifAllowed : (Priced ℕ → Bool) → Option (Priced ℕ) → Bool
@@ -80,10 +90,6 @@ module _ (step : ℕ → ℕ → Option (Priced ℕ)) (start : ℕ) where
   keeps p q nodes potentials =
       eachStep nodes (λ i v. leZ (atℤ potentials (indexOf nodes (v .to))) (atℤ potentials i +ℤ weight p q (v .cost) (v .reward)))
 
-  -- the rank falls along each step whose reward is of this kind
-  unfoldable pub falls : (ℕ → Bool) → List ℕ → List ℕ → Bool
-  falls kind nodes ranks = eachStep nodes (λ i v. not (kind (v .reward)) || ltb (at ranks (indexOf nodes (v .to))) (at ranks i))
-
   -- the cycle is walked from x back to x, and its cost and reward pass the test
   abbrev pub comesBack : (ℤ → ℕ → Bool) → List ℕ → ℕ → Bool
   comesBack t cycle x = isAllowed (λ v. allTrue (eqb (v .to) x ∷ t (v .cost) (v .reward) ∷ [])) (chain step x cycle)
@@ -111,14 +117,21 @@ module _ (step : ℕ → ℕ → Option (Priced ℕ)) (start : ℕ) where
       ∷ isLowest p q
       ∷ keeps p q (c .nodes) (c .potentials)
       ∷ isLasso (hasRatio p q) (c .stem) (c .cycle)
-      ∷ falls (λ r. eqb r 0) (c .nodes) (c .ranks)
       ∷ [])
 
-  -- 13: the ranks fall along every step; 14: the lasso's cycle earns nothing
+  -- 13: at p = 1 and q = 0 a step weighs minus its reward, so where it earns the potential falls, and it never rises
+  unfoldable pub showsNoneEarns : Certificate → Bool
+  showsNoneEarns c = keeps (pos 1) 0 (c .nodes) (c .potentials)
+
+  -- 14: a cycle earns, and another makes money without reward
+  unfoldable pub showsIdleGain : Certificate → Bool
+  showsIdleGain c = allTrue (isLasso earns (c .stem) (c .cycle) ∷ isLasso gainsIdle (c .idleStem) (c .idleCycle) ∷ [])
+
+  -- refused with this number
   unfoldable pub showsRefused : ℕ → Certificate → Bool
   showsRefused refusal c = allTrue
       (holdsAll (c .nodes)
-      ∷ ((eqb refusal 13 && falls (λ r. true) (c .nodes) (c .ranks)) || (eqb refusal 14 && isLasso (λ cost r. eqb r 0) (c .stem) (c .cycle)))
+      ∷ ((eqb refusal 13 && showsNoneEarns c) || (eqb refusal 14 && showsIdleGain c))
       ∷ [])
 
 -- where the check refuses the sheet, no certificate is needed

@@ -24,6 +24,10 @@ location = 5 ∷ 1 ∷ 0 ∷ 5 ∷ []
 abbrev pub edge : List ℕ
 edge = 15 ∷ 0 ∷ 0 ∷ 0 ∷ 5 ∷ 0 ∷ 2 ∷ 0 ∷ 1 ∷ 2 ∷ []
 
+-- the edge without its reward: map 0D 00, and these two bytes of cost
+abbrev pub idleEdge : ℕ → ℕ → List ℕ
+idleEdge low high = 13 ∷ 0 ∷ 0 ∷ 0 ∷ low ∷ high ∷ 1 ∷ 2 ∷ []
+
 -- "01 01 01 01 05 01 00 05 0F 00 00 00 05 00 02 00 01 02"
 abbrev pub bench : List ℕ
 bench = header ++ location ++ edge
@@ -61,7 +65,7 @@ changes =
     -- no edge, eight bytes
     ∷ row (set header 3 0 ++ location) (refuses 13)
     -- reward left out
-    ∷ row (header ++ location ++ 13 ∷ 0 ∷ 0 ∷ 0 ∷ 5 ∷ 0 ∷ 1 ∷ 2 ∷ []) (refuses 14)
+    ∷ row (header ++ location ++ idleEdge 5 0) (refuses 13)
     -- a byte more
     ∷ row (bench ++ 0 ∷ []) (refuses 10)
     -- a byte less
@@ -79,4 +83,10 @@ changes =
     ∷ row (set (set bench 0 2) 1 0) (refuses 3)
     -- empty
     ∷ row [] (refuses 2)
+    -- these are not 01's: a second edge equal but without reward, whose cycle costs 6
+    ∷ row (set header 3 2 ++ location ++ edge ++ idleEdge 5 0) (accepts (pos 3) 1 7)
+    -- a second edge without reward and cost FC FF: its cycle costs −3
+    ∷ row (set header 3 2 ++ location ++ edge ++ idleEdge 252 255) (refuses 14)
+    -- reward left out and edge cost FC FF: only that cycle
+    ∷ row (header ++ location ++ idleEdge 252 255) (refuses 13)
     ∷ []

@@ -6,7 +6,7 @@ use mathlib.Core.List.{List, [], _∷_, _++_}
 use Prim.Native.Nat.{ℕ}
 use Rattle.automaton.specs.Tests.{occurs}
 use Rattle.sheet.specs.Questions.{checkOf, checkNumbers, JustWhere}
-use Rattle.contract.specs.Questions.{TooMany, SomeCycle, IdleCycle}
+use Rattle.contract.specs.Questions.{TooMany, EarningCycle, IdleGain}
 use Rattle.contract.specs.Plan.{Buffers, LongEnough, stepOn, startOf}
 
 -- 1, those of the check, and 12 to 14
@@ -22,8 +22,8 @@ pub record OnItsCondition (bytes : List ℕ) (b : Buffers) (r : ℕ) : Type 0 wh
   pub just-1 : JustWhere r 1 (¬ LongEnough b)
   pub just-checked : (k : ℕ) → occurs k checkNumbers ≡ true → k ≢ 0 → JustWhere r k (LongEnough b × (checkOf bytes ≡ k))
   pub just-12 : JustWhere r 12 (Passed bytes b × TooMany (stepOn bytes) (startOf bytes))
-  pub just-13 : JustWhere r 13 (Passed bytes b × (¬ TooMany (stepOn bytes) (startOf bytes)) × (¬ SomeCycle (stepOn bytes) (startOf bytes)))
+  pub just-13 : JustWhere r 13 (Passed bytes b × (¬ TooMany (stepOn bytes) (startOf bytes)) × (¬ EarningCycle (stepOn bytes) (startOf bytes)))
   pub just-14 : JustWhere r 14
-      (Passed bytes b × (¬ TooMany (stepOn bytes) (startOf bytes)) × SomeCycle (stepOn bytes) (startOf bytes) × IdleCycle (stepOn bytes) (startOf bytes))
+      (Passed bytes b × (¬ TooMany (stepOn bytes) (startOf bytes)) × EarningCycle (stepOn bytes) (startOf bytes) × IdleGain (stepOn bytes) (startOf bytes))
   pub just-0 : JustWhere r 0
-      (Passed bytes b × (¬ TooMany (stepOn bytes) (startOf bytes)) × SomeCycle (stepOn bytes) (startOf bytes) × (¬ IdleCycle (stepOn bytes) (startOf bytes)))
+      (Passed bytes b × (¬ TooMany (stepOn bytes) (startOf bytes)) × EarningCycle (stepOn bytes) (startOf bytes) × (¬ IdleGain (stepOn bytes) (startOf bytes)))

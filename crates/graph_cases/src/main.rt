@@ -111,22 +111,28 @@ fn loops() {
     costed(b"a path", 3, &[0, 1, 5, 0, 1, 2, -9, 0, 0, 2, -3, 0]);
 }
 
-// The weights of questions 13 and 14, and of a ratio.
-fn questions() {
-    let any = Coefficients { a: 0, b: 0, c: -1 };
-    let idle = Coefficients {
-        a: 0,
-        b: 2049,
-        c: -1,
-    };
-    weighed(b"some cycle", any, 3, &[0, 1, 1, 0, 1, 2, 2, 4, 2, 0, 3, 0]);
-    weighed(b"no cycle", any, 3, &[0, 1, 1, 0, 1, 2, 2, 4]);
-    weighed(b"every cycle earns", idle, 2, &[0, 1, 1, 0, 1, 0, 2, 4]);
+// Weights by the number of arcs, by rewards alone, and at a ratio.
+fn weights() {
+    let by_arcs = Coefficients { a: 0, b: 0, c: -1 };
+    let by_reward = Coefficients { a: 0, b: -1, c: 0 };
     weighed(
-        b"a cycle that earns nothing",
-        idle,
+        b"some cycle",
+        by_arcs,
+        3,
+        &[0, 1, 1, 0, 1, 2, 2, 4, 2, 0, 3, 0],
+    );
+    weighed(b"no cycle", by_arcs, 3, &[0, 1, 1, 0, 1, 2, 2, 4]);
+    weighed(
+        b"a cycle that earns",
+        by_reward,
         2,
-        &[0, 1, 1, 0, 1, 0, 2, 4, 1, 1, 3, 0],
+        &[0, 1, 1, 0, 1, 0, 2, 4],
+    );
+    weighed(
+        b"cycles without reward",
+        by_reward,
+        2,
+        &[0, 1, 1, 0, 1, 0, -2, 0, 1, 1, -3, 0],
     );
     weighed(
         b"no cycle below -3/2",
@@ -255,7 +261,7 @@ fn lengths() {
 fn main() {
     cycles();
     loops();
-    questions();
+    weights();
     ranges();
     coefficients();
     lengths();

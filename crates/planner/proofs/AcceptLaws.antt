@@ -57,10 +57,10 @@ module _ {F T C order tree cycle : List ℕ} {D : List ℤ} {n k s : ℕ} {p : �
     long = o .of-sheet .long;
     checked = o .of-sheet .checked;
     explored = o .of-sheet .explored;
-    earns = o .earns;
+    earns = rw (Laid.turned-reward c sized laid g) (o .least .earns);
     potentials = o .least .potentials;
     lowest = o .least .ratio .lowest;
-    exact = Laid.turned-exact c sized laid g p q (o .least .ratio .exact);
+    exact = rw (Laid.turned-cost c sized laid g, Laid.turned-reward c sized laid g) (o .least .ratio .exact);
     lasso = Laid.is-lasso c sized laid;
     sorted = sorted;
     nodes-rest = w .nodes-rest;

@@ -11,12 +11,12 @@ use mir.Val.{toZ, ofZ}
 use mir.ValLaws.{toZ-ofZ}
 use Rattle.integers.proofs.Machine.{small}
 use Rattle.walks.specs.Walk.{at}
-use Rattle.walks.specs.Cycles.{Acyclic, EachEarns, Idle}
+use Rattle.walks.specs.Cycles.{EarningArcs, NoneEarns, IdleGainArcs}
 use Rattle.walks.proofs.Walks.{walk-arc}
 use Rattle.ratio.specs.Answer.{RatioFound, RatioAnswered}
 use Rattle.ratio.specs.declared.RatioAnswer.{RatioAnswer}
-use Rattle.ratio.specs.declared.RatioAnswer.the-variants.{Malformed, NoCycle, NoReward, Ratio}
-use Rattle.ratio.proofs.RatioAnswerLaws.{room, numbered-13, numbered-14, numbered-0}
+use Rattle.ratio.specs.declared.RatioAnswer.the-variants as RatioAnswer
+use Rattle.ratio.proofs.RatioAnswerLaws.{room, numbered-13, numbered-14}
 use Rattle.contract.specs.Plan.{Answer, refusedPlan, Buffers, zeros, SameLengths, Judged, Planned}
 use Rattle.planner.specs.ContractTerms.{lentBuffers}
 use Rattle.planner.specs.PrivatePromises.{Handed, Cyclic, PlannedButForClearing}
@@ -71,22 +71,19 @@ module _ {F T C : List ℕ} {Z : List ℤ} {R order tree : List ℕ} {n : ℕ} (
   abbrev Is : RatioAnswer → Type 0
   Is = RatioAnswered F T Z R n (replicate 2048 (pos 0)) D (replicate 2048 0) cycle
 
-  pub never : W ≡ Malformed → ⊥
+  pub never : W ≡ RatioAnswer.Malformed → ⊥
   never e = subst Is e z .0
       (record { graph = h .graph; potential-room = room 2048 (pos 0) (h .graph .nodes); cycle-room = room {A = ℕ} 2048 0 (h .graph .nodes) })
 
-  pub acyclic : W ≡ NoCycle → Acyclic F T (length F)
-  acyclic e = numbered-13 (subst Is e z .0 .1)
+  pub none-earns : W ≡ RatioAnswer.NoneEarns → NoneEarns F T (length F) R
+  none-earns e = numbered-13 (subst Is e z .0 .1)
 
-  pub idle : W ≡ NoReward → Idle F T (length F) R
-  idle e = numbered-14 (subst Is e z .0 .1)
+  pub idle-gain : W ≡ RatioAnswer.IdleGain → EarningArcs F T (length F) R × IdleGainArcs F T (length F) Z R
+  idle-gain e = numbered-14 (subst Is e z .0 .1)
 
-  module _ (p : ℤ) (q k : ℕ) (e : W ≡ Ratio p q k) where
+  module _ (p : ℤ) (q k : ℕ) (e : W ≡ RatioAnswer.Ratio p q k) where
     pub least : RatioFound F T Z R n p q k (replicate 2048 (pos 0)) D (replicate 2048 0) cycle
     least = subst Is e z .1
-
-    pub each-earns : EachEarns F T (length F) R
-    each-earns = numbered-0 (subst Is e z .0 .1)
 
     -- with the numerator as it is read back
     pub least-again : RatioFound F T Z R n (toZ w64 (ofZ w64 p)) q k (replicate 2048 (pos 0)) D (replicate 2048 0) cycle

@@ -1,13 +1,11 @@
 -- The arcs that `lasso_of` laid out: a lasso, no longer than there are nodes, of arcs of the graph.
 use mathlib.Core.Path.{_≡_, sym, ap, _∙_, subst}
 use mathlib.Core.List.{List, _++_}
-use Prim.Native.Nat.{ℕ, _+_, _-_, _≤_, _<_}
+use Prim.Native.Nat.{ℕ, _+_, _≤_, _<_}
 use native.Mathlib.Omega.{arith}
-use lib.IntN.{ℤ, pos, _*ℤ_}
 use lib.ListN.{length, take, replicate, length-replicate}
 use lib.Seq.{slice, length-take-le, length-slice, getD-take}
-use Rattle.walks.specs.Walk.{at, atℤ}
-use Rattle.walks.specs.Weight.{sum, total}
+use Rattle.walks.specs.Walk.{at}
 use Rattle.walks.specs.Lasso.{ArcLasso}
 use Rattle.walks.proofs.Lassos.{lasso-arc, lasso-short}
 use Rattle.walks.proofs.Trees.{slice-join}
@@ -16,7 +14,8 @@ use Rattle.lasso.specs.declared.Answer.{Answer}
 use Rattle.lasso.specs.declared.Answer.the-variants.{Malformed, Laid}
 use Rattle.lasso.proofs.Laying.{lasso-laid}
 use Rattle.contract.specs.Explored.{Found}
-use Rattle.contract.proofs.Graphs.{exact-turned}
+use Rattle.contract.proofs.Arcs.{costOf, rewardOf}
+use Rattle.contract.proofs.Graphs.{cost-turned, reward-turned}
 use Rattle.planner.specs.PrivatePromises.{Cyclic, Pickable}
 
 module _ {F T C order tree cycle : List ℕ} {n k s : ℕ} {arcs arcs' : List ℕ} (c : Cyclic F T C order tree cycle n k)
@@ -61,15 +60,15 @@ module _ {F T C order tree cycle : List ℕ} {n k s : ℕ} {arcs arcs' : List �
     room = omega (arith, short, c .formed .few);
   }
 
-  -- the turned cycle has the cycle's ratio
-  pub turned-exact : (g : Found) (p : ℤ) (q : ℕ) → pos q *ℤ sum (atℤ (g .cost)) (take k cycle) ≡ p *ℤ pos (total (at (g .reward)) (take k cycle))
-      → pos q *ℤ sum (atℤ (g .cost)) turned ≡ p *ℤ pos (total (at (g .reward)) turned)
-  turned-exact g p q e =
-      subst Exact (sym (laid .turned)) (exact-turned g (take (laid .turn) cycle) (slice (laid .turn) k cycle) p q
-      (subst Exact (slice-join 0 (laid .turn) k cycle (omega arith) (omega (arith, laid .below))) e))
-    where
-      Exact : List ℕ → Type 0
-      Exact l = pos q *ℤ sum (atℤ (g .cost)) l ≡ p *ℤ pos (total (at (g .reward)) l)
+  -- the turned cycle costs and earns what the cycle does
+  whole : take k cycle ≡ take (laid .turn) cycle ++ slice (laid .turn) k cycle
+  whole = slice-join 0 (laid .turn) k cycle (omega arith) (omega (arith, laid .below))
+
+  pub turned-cost : (g : Found) → costOf g turned ≡ costOf g (take k cycle)
+  turned-cost g = ap (costOf g) (laid .turned) ∙ cost-turned g (take (laid .turn) cycle) (slice (laid .turn) k cycle) ∙ sym (ap (costOf g) whole)
+
+  pub turned-reward : (g : Found) → rewardOf g turned ≡ rewardOf g (take k cycle)
+  turned-reward g = ap (rewardOf g) (laid .turned) ∙ reward-turned g (take (laid .turn) cycle) (slice (laid .turn) k cycle) ∙ sym (ap (rewardOf g) whole)
 
 -- by what `lasso_of` answered
 module _ (F T tree cycle : List ℕ) (n k : ℕ) (arcs' : List ℕ) (A : Answer) (z : LassoAnswered F T tree cycle n k (replicate 4096 0) arcs' A) where

@@ -9,7 +9,7 @@ use Rattle.sheet.specs.Decoded.{readOf}
 use Rattle.sheet.specs.declared.Sheet.{Sheet}
 use Rattle.walks.specs.Walk.{at}
 use Rattle.walks.specs.Form.{Graph}
-use Rattle.walks.specs.Cycles.{SimpleCycle, EachEarns}
+use Rattle.walks.specs.Cycles.{SimpleCycle}
 use Rattle.lasso.specs.Answer as Lasso
 use Rattle.ratio.specs.Answer.{RatioFound}
 use Rattle.contract.specs.Plan.{Answer, refusedPlan, Buffers, LongEnough, SameLengths, Judged, Planned, stepOn, startOf}
@@ -78,12 +78,11 @@ pub record Cyclic (F T C order tree cycle : List ℕ) (n k : ℕ) : Type 0 where
   pub ordered : n ≤ length order
   pub order-below : (i : ℕ) → i < n → at order i < n
 
--- the graph is that of a sheet, each cycle earns, and p/q is the least ratio, with the potentials and the cycle that were found with it
+-- the graph is that of a sheet, and p/q is the least ratio, with the potentials and the cycle that were found with it
 pub record Solved (F T C order : List ℕ) (D : List ℤ) (cycle : List ℕ) (n k : ℕ) (p : ℤ) (q : ℕ) (lent : Buffers) : Type 0 where
   pub cost : List ℤ
   pub reward : List ℕ
   pub of-sheet : OfSheet F T C cost reward order n lent
-  pub earns : EachEarns F T (length F) reward
   pub potential : List ℤ
   pub arcs : List ℕ
   pub least : RatioFound F T cost reward n p q k potential D arcs cycle

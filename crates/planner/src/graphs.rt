@@ -68,8 +68,8 @@ pub(crate) fn plan_graph(
     let mut cycle = [0usize; 2048];
     let verdict = ratio::least_ratio(from, to, cost, reward, n, &mut least, &mut cycle);
     match verdict {
-        RatioAnswer::NoCycle => crate::output::refused(13),
-        RatioAnswer::NoReward => crate::output::refused(14),
+        RatioAnswer::NoneEarns => crate::output::refused(13),
+        RatioAnswer::IdleGain => crate::output::refused(14),
         RatioAnswer::Ratio(p, q, k) => accept(
             from,
             to,

@@ -13,7 +13,7 @@ use Rattle.walks.specs.Walk.{at, atℤ, ArcWalk}
 use Rattle.walks.specs.Weight.{sum, total}
 use Rattle.walks.specs.Form.{Graph}
 use Rattle.walks.proofs.Walks.{walk-arc}
-use Rattle.ratio.specs.Turns.{Reduced, Summed, Ready, InHand}
+use Rattle.ratio.specs.Turns.{Reduced, Summed, InHand, Earns}
 
 module _ {F T : List ℕ} {cost : List ℤ} {reward : List ℕ} {n : ℕ} (g : Graph F T cost reward n) where
   cost-bound : (x : ℕ) (c : List ℕ) (y : ℕ) → ArcWalk F T (length F) x c y → natAbs (sum (atℤ cost) c) ≤ 10000 * length c
@@ -39,15 +39,15 @@ module _ {F T : List ℕ} {cost : List ℤ} {reward : List ℕ} {n : ℕ} (g : G
     hand-arc i l = subst (λ (x : ℕ). x < length F) (getD-take k hand i 0 l)
         (walk-arc F T (length F) (h .cycle .hub) (take k hand) (h .cycle .hub) (h .cycle .cycle .walk) i (omega (arith, arcs)))
 
-pub summed : {F T : List ℕ} {cost : List ℤ} {reward : List ℕ} {n a b : ℕ} → Ready F T cost reward n a b → {hand : List ℕ} {k : ℕ} → InHand F T n hand k
+pub summed : {F T : List ℕ} {cost : List ℤ} {reward : List ℕ} {n : ℕ} → Graph F T cost reward n → {hand : List ℕ} {k : ℕ} → InHand F T n hand k → Earns reward hand k
     → Summed cost reward hand k
-summed r {hand} {k} h = let g = r .formed .graph in record {
+summed g h e = record {
   room = omega (arith, h .short, h .room);
   short = omega (arith, h .short, g .nodes);
   costs = λ i l. omega (arith, hand-arc g h i l, g .costs);
   rewards = λ i l. omega (arith, hand-arc g h i l, g .rewards);
   cost-small = hand-cost g h;
-  earns = r .earns (h .cycle .hub) (take k hand) (h .cycle .reached) (h .cycle .cycle);
+  earns = e;
 }
 
 -- a fraction divided by the greatest common divisor

@@ -1,20 +1,22 @@
--- The searches for questions 13 and 14 by their answers, the copy of the cycle, and what the verdict's number says.
-use mathlib.Core.Path.{_≡_, sym, ap, subst, _∙_}
+-- A search by its answers, the first one by its coefficients, the copy of the cycle, and what the verdict's number says.
+use mathlib.Core.Path.{_≡_, refl, sym, ap, subst, _∙_}
+use mathlib.Core.Bool.{true}
 use mathlib.Core.List.{List, _++_}
 use Prim.Native.Nat.{ℕ, _≤_, _<_}
 use native.Mathlib.Omega.{arith}
-use lib.ListN.{length, take, drop, replicate, length-take, length-replicate}
-use lib.IntN.{ℤ, pos, negsuc}
+use borrow.Author.Tests.{ltb-true}
+use lib.ListN.{length, take, drop, replicate, length-replicate}
+use lib.Dec.{ltb}
+use lib.IntN.{ℤ, pos}
 use lib.Seq.{length-take-le, take-at, drop-at}
-use Rattle.walks.specs.Form.{Graph}
+use Rattle.integers.proofs.Parts.{up, dn}
+use Rattle.walks.specs.Form.{Graph, CoefficientsInRange}
+use Rattle.walks.specs.Weight.{weightOf}
+use Rattle.walks.specs.Cycles.{EarningArcs, NoneEarns, IdleGainArcs}
 use Rattle.graph.specs.Answer as Search
 use Rattle.graph.specs.declared.Answer.{Answer}
 use Rattle.graph.specs.declared.Answer.the-variants.{Malformed, Cycle, Potentials}
-use Rattle.walks.specs.Cycles.{Acyclic, EachEarns, Idle}
 use Rattle.ratio.specs.Answer.{RatioQuestions, no-to-13, no-to-14, yes-to-both}
-use Rattle.ratio.specs.Turns.{InHand}
-use Rattle.ratio.proofs.Searches.{simple-of, idle}
-use Rattle.walks.specs.Weight.{weightOf}
 
 -- a new list of k entries has room for as many
 pub room : {A : Type 0} {n : ℕ} (k : ℕ) (x : A) → n ≤ k → n ≤ length (replicate k x)
@@ -26,48 +28,42 @@ pub coded : (F T : List ℕ) (cost : List ℤ) (reward : List ℕ) (a b c : ℤ)
     → Search.SearchAnswered F T cost reward a b c n potential potential' arcs arcs' A
 coded F T cost reward a b c n potential potential' arcs arcs' A s ea eb ec = rw (sym ea, sym eb, sym ec) s
 
--- the search at (0, b, -1)
-module _ (F T : List ℕ) (cost : List ℤ) (reward : List ℕ) (n b : ℕ) (hb : b ≤ 20480001) (potential potential' : List ℤ) (arcs arcs' : List ℕ)
-    (A : Answer) (z : Search.SearchAnswered F T cost reward (pos 0) (pos b) (negsuc 0) n potential potential' arcs arcs' A) where
+-- a search by its answer
+module _ (F T : List ℕ) (cost : List ℤ) (reward : List ℕ) (a b c : ℤ) (n : ℕ) (potential potential' : List ℤ) (arcs arcs' : List ℕ)
+    (A : Answer) (z : Search.SearchAnswered F T cost reward a b c n potential potential' arcs arcs' A) where
   abbrev Is : Answer → Type 0
-  Is = Search.SearchAnswered F T cost reward (pos 0) (pos b) (negsuc 0) n potential potential' arcs arcs'
+  Is = Search.SearchAnswered F T cost reward a b c n potential potential' arcs arcs'
 
   -- malformed arguments are no graph
-  pub no-graph : n ≤ length potential → n ≤ length arcs → A ≡ Malformed → Graph F T cost reward n → ⊥
-  no-graph hp ha e g = subst Is e z .0 (record { graph = g; in-range = record { a-small = omega arith; b-small = omega arith; c-small = omega arith }; potential-room = hp; cycle-room = ha })
+  pub no-graph : CoefficientsInRange a b c → n ≤ length potential → n ≤ length arcs → A ≡ Malformed → Graph F T cost reward n → ⊥
+  no-graph k hp ha e g = subst Is e z .0 (record { graph = g; in-range = k; potential-room = hp; cycle-room = ha })
 
-  pub found : (k : ℕ) → A ≡ Cycle k → Graph F T cost reward n × Search.CycleFound F T (weightOf (pos 0) (pos b) (negsuc 0) cost reward) n k potential potential' arcs arcs'
+  pub found : (k : ℕ) → A ≡ Cycle k → Graph F T cost reward n × Search.CycleFound F T (weightOf a b c cost reward) n k potential potential' arcs arcs'
   found k e = let y = subst Is e z in (y .0 .graph, y .1)
 
-  pub none : A ≡ Potentials → Graph F T cost reward n × Search.PotentialsFound F T (weightOf (pos 0) (pos b) (negsuc 0) cost reward) n potential potential' arcs arcs'
+  pub none : A ≡ Potentials → Graph F T cost reward n × Search.PotentialsFound F T (weightOf a b c cost reward) n potential potential' arcs arcs'
   none e = let y = subst Is e z in (y .0 .graph, y .1)
 
--- question 13
-module _ (F T : List ℕ) (cost : List ℤ) (reward : List ℕ) (n : ℕ) (potential potential' : List ℤ) (arcs arcs' : List ℕ) where
-  pub first-hand : (k : ℕ) → length arcs' ≡ length arcs → n ≤ length arcs
-      → Search.CycleFound F T (weightOf (pos 0) (pos 0) (negsuc 0) cost reward) n k potential potential' arcs arcs' → InHand F T n arcs' k
-  first-hand k e h g = record {
-    short = g .short;
-    room = omega arith;
-    cycle = simple-of F T (length F) (weightOf (pos 0) (pos 0) (negsuc 0) cost reward) (take k arcs') (g .negative);
-  }
+-- a search by rewards alone, each unit below 0
+pub record SearchByReward (F T : List ℕ) (cost : List ℤ) (reward : List ℕ) (n : ℕ) (potential potential' : List ℤ) (arcs arcs' : List ℕ) (A : Answer) : Type 0 where
+  pub b : ℤ
+  pub negative : up b ≡ 0
+  pub some : 0 < dn b
+  pub in-range : CoefficientsInRange (pos 0) b (pos 0)
+  pub answered : Search.SearchAnswered F T cost reward (pos 0) b (pos 0) n potential potential' arcs arcs' A
 
--- question 14: the search tells cycles that earn nothing, as b is above the number of arcs of any simple cycle
-pub record SearchForIdle (F T : List ℕ) (cost : List ℤ) (reward : List ℕ) (n : ℕ) (potential potential' : List ℤ) (arcs arcs' : List ℕ) (A : Answer) : Type 0 where
-  pub b : ℕ
-  pub above : 2048 < b
-  pub in-range : b ≤ 20480001
-  pub answered : Search.SearchAnswered F T cost reward (pos 0) (pos b) (negsuc 0) n potential potential' arcs arcs' A
-
-pub for-idle : {F T : List ℕ} {cost : List ℤ} {reward : List ℕ} {n b : ℕ} {potential potential' : List ℤ} {arcs arcs' : List ℕ} {A : Answer}
-    → Search.SearchAnswered F T cost reward (pos 0) (pos b) (negsuc 0) n potential potential' arcs arcs' A → 2048 < b → b ≤ 20480001
-    → SearchForIdle F T cost reward n potential potential' arcs arcs' A
-for-idle {b = b} z above small = record { b = b; above = above; in-range = small; answered = z }
-
-pub idle-found : {F T : List ℕ} {cost : List ℤ} {reward : List ℕ} {n b : ℕ} {potential potential' : List ℤ} {arcs arcs' : List ℕ} {k : ℕ} → Graph F T cost reward n → 2048 < b
-    → Search.CycleFound F T (weightOf (pos 0) (pos b) (negsuc 0) cost reward) n k potential potential' arcs arcs' → Idle F T (length F) reward
-idle-found {F} {T} {cost} {reward} {b = b} {arcs' = arcs'} {k = k} g above c =
-    idle F T (length F) cost reward b (take k arcs') (omega (arith, length-take k arcs', c .short, g .nodes)) (c .negative)
+-- by the coefficients that the code has
+pub by-reward : {F T : List ℕ} {cost : List ℤ} {reward : List ℕ} {n : ℕ} {a b c : ℤ} {potential potential' : List ℤ} {arcs arcs' : List ℕ} {A : Answer}
+    → Search.SearchAnswered F T cost reward a b c n potential potential' arcs arcs' A
+    → CoefficientsInRange a b c → up b ≡ 0 → ltb 0 (dn b) ≡ true → a ≡ pos 0 → c ≡ pos 0
+    → SearchByReward F T cost reward n potential potential' arcs arcs' A
+by-reward {F} {T} {cost} {reward} {n} {a} {b} {c} {potential} {potential'} {arcs} {arcs'} {A} z range negative some no-cost no-arc = record {
+  b = b;
+  negative = negative;
+  some = ltb-true 0 (dn b) some;
+  in-range = record { a-small = omega arith; b-small = range .b-small; c-small = omega arith };
+  answered = coded F T cost reward (pos 0) b (pos 0) n potential potential' arcs arcs' A z no-cost refl no-arc;
+}
 
 -- the cycle copied to the front of the lent buffer
 module _ (hand cycle cycle' : List ℕ) (k : ℕ) (fits : k ≤ length hand) (e : cycle' ≡ take k hand ++ drop k cycle) where
@@ -81,18 +77,13 @@ module _ (hand cycle cycle' : List ℕ) (k : ℕ) (fits : k ≤ length hand) (e 
   copied-rest = ap (drop k) e ∙ drop-at (take k hand) (drop k cycle) k sized
 
 -- what each number says of the graph
-module _ {F T reward : List ℕ} where
-  pub numbered-13 : RatioQuestions F T reward 13 → Acyclic F T (length F)
+module _ {F T : List ℕ} {cost : List ℤ} {reward : List ℕ} where
+  pub numbered-13 : RatioQuestions F T cost reward 13 → NoneEarns F T (length F) reward
   numbered-13 (no-to-13 e a) = a
-  numbered-13 (no-to-14 e i) = absurd (omega arith)
-  numbered-13 (yes-to-both e c s a) = absurd (omega arith)
+  numbered-13 (no-to-14 e c i) = absurd (omega arith)
+  numbered-13 (yes-to-both e c a) = absurd (omega arith)
 
-  pub numbered-14 : RatioQuestions F T reward 14 → Idle F T (length F) reward
+  pub numbered-14 : RatioQuestions F T cost reward 14 → EarningArcs F T (length F) reward × IdleGainArcs F T (length F) cost reward
   numbered-14 (no-to-13 e a) = absurd (omega arith)
-  numbered-14 (no-to-14 e i) = i
-  numbered-14 (yes-to-both e c s a) = absurd (omega arith)
-
-  pub numbered-0 : RatioQuestions F T reward 0 → EachEarns F T (length F) reward
-  numbered-0 (no-to-13 e a) = absurd (omega arith)
-  numbered-0 (no-to-14 e i) = absurd (omega arith)
-  numbered-0 (yes-to-both e c s a) = a
+  numbered-14 (no-to-14 e c i) = (c, i)
+  numbered-14 (yes-to-both e c a) = absurd (omega arith)

@@ -1,4 +1,5 @@
--- What the private functions promise each other: the ratio of the cycle in hand, and a turn of the loop. Only private functions go by this file.
+-- What the private functions promise each other: the ratio of the cycle in hand, a turn of the loop, and what the loop comes to. Only private
+-- functions go by this file.
 use mathlib.Core.Path.{_≡_}
 use mathlib.Core.List.{List}
 use Prim.Native.Nat.{ℕ, _≤_, _<_}
@@ -8,10 +9,12 @@ use Rattle.integers.specs.Lowest.{Lowest}
 use lib.Signed.{_<ℤ_}
 use Rattle.walks.specs.Walk.{at, atℤ}
 use Rattle.walks.specs.Weight.{weightOf, sum, total, NoneNegative, PotentialOrMark}
-use Rattle.walks.specs.Cycles.{SimpleCycle, EachEarns}
-use Rattle.ratio.specs.Answer.{RatioArguments, RatioOf}
+use Rattle.walks.specs.Cycles.{SimpleCycle, EarningArcs, IdleGainArcs}
+use Rattle.ratio.specs.Answer.{RatioOf}
 use Rattle.ratio.specs.declared.improve.Turn.{Turn}
-use Rattle.ratio.specs.declared.improve.Turn.the-variants.{Better, Done}
+use Rattle.ratio.specs.declared.improve.Turn.the-variants as Turn
+use Rattle.ratio.specs.declared.improve.Settled.{Settled}
+use Rattle.ratio.specs.declared.improve.Settled.the-variants as Settled
 
 -- p / q is cost / reward in lowest terms
 pub record Reduced (cost : ℤ) (reward : ℕ) (p : ℤ) (q : ℕ) : Type 0 where
@@ -29,16 +32,15 @@ pub record Summed (cost : List ℤ) (reward arcs : List ℕ) (k : ℕ) : Type 0 
   pub cost-small : natAbs (sum (atℤ cost) (take k arcs)) ≤ 20480000
   pub earns : 0 < total (at reward) (take k arcs)
 
--- the arguments of a turn, where question 14 is answered yes
-pub record Ready (F T : List ℕ) (cost : List ℤ) (reward : List ℕ) (n potentials arcs : ℕ) : Type 0 where
-  pub formed : RatioArguments F T cost reward n potentials arcs
-  pub earns : EachEarns F T (length F) reward
-
 -- the cycle in hand: the first k entries
 pub record InHand (F T : List ℕ) (n : ℕ) (hand : List ℕ) (k : ℕ) : Type 0 where
   pub short : k ≤ n
   pub room : n ≤ length hand
   pub cycle : SimpleCycle F T (length F) (take k hand)
+
+-- it earns
+abbrev pub Earns : List ℕ → List ℕ → ℕ → Type 0
+Earns reward hand k = 0 < total (at reward) (take k hand)
 
 -- the ratio of the cycle c is below that of d: its cost times d's reward is below d's cost times its reward
 abbrev pub Cheaper : List ℤ → List ℕ → List ℕ → List ℕ → Type 0
@@ -47,6 +49,7 @@ Cheaper cost reward c d = (sum (atℤ cost) c *ℤ pos (total (at reward) d)) <�
 -- the potentials at the ratio p / q of the cycle in hand are written, and there is no cycle below it
 pub record LeastInHand (F T : List ℕ) (cost : List ℤ) (reward : List ℕ) (n : ℕ) (potential potential' : List ℤ) (hand : List ℕ) (p : ℤ) (q k : ℕ) : Type 0 where
   pub in-hand : InHand F T n hand k
+  pub earns : Earns reward hand k
   pub ratio : RatioOf cost reward (take k hand) p q
   pub p-small : natAbs p ≤ 20480000
   pub q-small : q ≤ 20480000
@@ -54,12 +57,24 @@ pub record LeastInHand (F T : List ℕ) (cost : List ℤ) (reward : List ℕ) (n
   pub potentials : (v : ℕ) → v < n → PotentialOrMark F T (length F) (weightOf (pos q) (negℤ p) (pos 0) cost reward) v (atℤ potential' v)
   pub rest : drop n potential' ≡ drop n potential
 
--- a cheaper cycle is in hand, and no potential is written
+-- a cheaper cycle that earns is in hand, and no potential is written
 pub record Improved (F T : List ℕ) (cost : List ℤ) (reward : List ℕ) (n k j : ℕ) (potential potential' : List ℤ) (hand hand' : List ℕ) : Type 0 where
   pub in-hand : InHand F T n hand' j
+  pub earns : Earns reward hand' j
   pub cheaper : Cheaper cost reward (take j hand') (take k hand)
   pub kept : potential' ≡ potential
 
+-- a cycle earns and one without reward makes money, and no potential is written
+pub record GainFound (F T : List ℕ) (cost : List ℤ) (reward : List ℕ) (potential potential' : List ℤ) : Type 0 where
+  pub earning : EarningArcs F T (length F) reward
+  pub gain : IdleGainArcs F T (length F) cost reward
+  pub kept : potential' ≡ potential
+
 abbrev pub Turned : List ℕ → List ℕ → List ℤ → List ℕ → ℕ → ℕ → List ℤ → List ℤ → List ℕ → List ℕ → Turn → Type 0
-Turned F T cost reward n k potential potential' hand hand' (Better j) = Improved F T cost reward n k j potential potential' hand hand'
-Turned F T cost reward n k potential potential' hand hand' (Done p q) = LeastInHand F T cost reward n potential potential' hand' p q k
+Turned F T cost reward n k potential potential' hand hand' (Turn.Better j) = Improved F T cost reward n k j potential potential' hand hand'
+Turned F T cost reward n k potential potential' hand hand' Turn.Gains = GainFound F T cost reward potential potential'
+Turned F T cost reward n k potential potential' hand hand' (Turn.Done p q) = LeastInHand F T cost reward n potential potential' hand' p q k
+
+abbrev pub SettledBy : List ℕ → List ℕ → List ℤ → List ℕ → ℕ → List ℤ → List ℤ → List ℕ → Settled → Type 0
+SettledBy F T cost reward n potential potential' hand' Settled.Gains = GainFound F T cost reward potential potential'
+SettledBy F T cost reward n potential potential' hand' (Settled.Least p q k) = LeastInHand F T cost reward n potential potential' hand' p q k

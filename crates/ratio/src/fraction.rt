@@ -52,7 +52,7 @@ fn cost_sum(cost: &[i16], arcs: &[usize], k: usize) -> i64
 }
 
 // The reward of the first k arcs of a list.
-fn reward_sum(reward: &[u16], arcs: &[usize], k: usize) -> u64
+pub(crate) fn reward_sum(reward: &[u16], arcs: &[usize], k: usize) -> u64
     requires { ⌜ k ≤ length (now arcs) ⌝ ∗ ⌜ k ≤ 2048 ⌝ }
     requires { ⌜ ((i : ℕ) → i < k → at (now arcs) i < length (now reward)) ⌝ }
     ensures { λ r. ⌜ r ≡ total (at (now (reward .entry))) (take k (now (arcs .entry))) ⌝ }

@@ -1,22 +1,23 @@
-// From a first cycle to one of the least ratio.
+// From a cycle that earns to one of the least ratio, or to one without reward that makes money.
 ghost use lib.ListN.{length};
 ghost use Rattle.ratio.specs.Answer.{RatioArguments, RatioAnswered};
-ghost use Rattle.ratio.specs.Turns.{Ready, InHand, Turned, LeastInHand};
+ghost use Rattle.ratio.specs.Turns.{InHand, Earns, Turned, SettledBy};
 use crate::RatioAnswer;
 use graph::Answer;
 use graph::Coefficients;
 
-// A cycle of a smaller ratio is in hand now, by the number of its arcs; or there is none, and the ratio is p / q.
+// A cycle of a smaller ratio is in hand now, by the number of its arcs; or a cycle without reward makes money; or there is neither, and the
+// ratio is p / q.
 enum Turn {
     Better(usize),
+    Gains,
     Done(i64, u64),
 }
 
-// The least ratio p / q, and the number of arcs of the cycle in hand, which has it.
-struct Least {
-    p: i64,
-    q: u64,
-    arcs: usize,
+// A cycle without reward makes money; or the least ratio p / q, and the number of arcs of the cycle in hand, which has it.
+enum Settled {
+    Gains,
+    Least(i64, u64, usize),
 }
 
 // One search for a cycle below the ratio of the one in hand. Where there is none, the potentials are written.
@@ -30,8 +31,8 @@ fn search_below(
     hand: &mut [usize],
     k: usize,
 ) -> Turn
-    requires { ⌜ Ready (now from) (now to) (now cost) (now reward) nodes (length (now potential)) (length (now hand)) ⌝ }
-    requires { ⌜ InHand (now from) (now to) nodes (now hand) k ⌝ }
+    requires { ⌜ RatioArguments (now from) (now to) (now cost) (now reward) nodes (length (now potential)) (length (now hand)) ⌝ }
+    requires { ⌜ InHand (now from) (now to) nodes (now hand) k ⌝ ∗ ⌜ Earns (now reward) (now hand) k ⌝ }
     ensures { λ r. ⌜ Turned (now (from .entry)) (now (to .entry)) (now (cost .entry)) (now (reward .entry)) nodes k
         (now (potential .entry)) (now (potential .exit)) (now (hand .entry)) (now (hand .exit)) r ⌝ }
 {
@@ -46,7 +47,13 @@ fn search_below(
     let found = graph::negative_cycle(from, to, cost, reward, below, nodes, potential, hand);
     match found {
         Answer::Malformed => Turn::Done(p, q),
-        Answer::Cycle(j) => Turn::Better(j),
+        Answer::Cycle(j) => {
+            let earned = crate::fraction::reward_sum(reward, hand, j);
+            if earned == 0 {
+                return Turn::Gains;
+            }
+            Turn::Better(j)
+        }
         Answer::Potentials => Turn::Done(p, q),
     }
 }
@@ -61,11 +68,11 @@ fn settle(
     potential: &mut [i64],
     hand: &mut [usize],
     k: usize,
-) -> Least
-    requires { ⌜ Ready (now from) (now to) (now cost) (now reward) nodes (length (now potential)) (length (now hand)) ⌝ }
-    requires { ⌜ InHand (now from) (now to) nodes (now hand) k ⌝ }
-    ensures { λ r. ⌜ LeastInHand (now (from .entry)) (now (to .entry)) (now (cost .entry)) (now (reward .entry)) nodes
-        (now (potential .entry)) (now (potential .exit)) (now (hand .exit)) (r .p) (r .q) (r .arcs) ⌝ }
+) -> Settled
+    requires { ⌜ RatioArguments (now from) (now to) (now cost) (now reward) nodes (length (now potential)) (length (now hand)) ⌝ }
+    requires { ⌜ InHand (now from) (now to) nodes (now hand) k ⌝ ∗ ⌜ Earns (now reward) (now hand) k ⌝ }
+    ensures { λ r. ⌜ SettledBy (now (from .entry)) (now (to .entry)) (now (cost .entry)) (now (reward .entry)) nodes
+        (now (potential .entry)) (now (potential .exit)) (now (hand .exit)) r ⌝ }
 {
     let mut arcs = k;
     loop {
@@ -74,14 +81,17 @@ fn settle(
             Turn::Better(j) => {
                 arcs = j;
             }
+            Turn::Gains => {
+                return Settled::Gains;
+            }
             Turn::Done(p, q) => {
-                return Least { p, q, arcs };
+                return Settled::Least(p, q, arcs);
             }
         }
     }
 }
 
-// Question 14, and where it is answered yes the least ratio: the first k arcs in hand are a cycle.
+// Question 14, and where it is answered yes the least ratio: the first k arcs in hand are a cycle that earns.
 pub(crate) fn beyond(
     from: &[u16],
     to: &[u16],
@@ -94,35 +104,14 @@ pub(crate) fn beyond(
     k: usize,
 ) -> RatioAnswer
     requires { ⌜ RatioArguments (now from) (now to) (now cost) (now reward) nodes (length (now potential)) (length (now cycle)) ⌝ }
-    requires { ⌜ InHand (now from) (now to) nodes (now hand) k ⌝ }
+    requires { ⌜ InHand (now from) (now to) nodes (now hand) k ⌝ ∗ ⌜ Earns (now reward) (now hand) k ⌝ }
     ensures { λ r. ⌜ RatioAnswered (now (from .entry)) (now (to .entry)) (now (cost .entry)) (now (reward .entry)) nodes
         (now (potential .entry)) (now (potential .exit)) (now (cycle .entry)) (now (cycle .exit)) r ⌝ }
 {
-    let mut unused = [0i64; 2048];
-    let mut idle_arcs = [0usize; 2048];
-    let idle = Coefficients {
-        a: 0,
-        b: 2049,
-        c: -1,
-    };
-    let found = graph::negative_cycle(
-        from,
-        to,
-        cost,
-        reward,
-        idle,
-        nodes,
-        &mut unused,
-        &mut idle_arcs,
-    );
-    match found {
-        Answer::Malformed => RatioAnswer::Malformed,
-        Answer::Cycle(_) => RatioAnswer::NoReward,
-        Answer::Potentials => {
-            let least = settle(from, to, cost, reward, nodes, potential, hand, k);
-            let p = least.p;
-            let q = least.q;
-            let arcs = least.arcs;
+    let settled = settle(from, to, cost, reward, nodes, potential, hand, k);
+    match settled {
+        Settled::Gains => RatioAnswer::IdleGain,
+        Settled::Least(p, q, arcs) => {
             crate::copy::arcs(hand, cycle, arcs);
             RatioAnswer::Ratio(p, q, arcs)
         }

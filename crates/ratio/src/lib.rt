@@ -1,4 +1,4 @@
-// Questions 13 and 14, and the least ratio of cost over reward of a cycle that a walk from node 0 reaches.
+// Questions 13 and 14, and the least ratio of cost over reward of the cycles that earn and that a walk from node 0 reaches.
 // The arc e leads from from[e] to to[e], costs cost[e] and earns reward[e].
 ghost use Rattle.ratio.specs.Answer.{RatioAnswered};
 use graph::Coefficients;
@@ -7,12 +7,12 @@ mod copy;
 mod fraction;
 mod improve;
 
-// Malformed arguments; no cycle (question 13); a cycle that earns nothing (question 14); or the least ratio p / q, in lowest terms, and the
-// number of arcs of a cycle that has it.
+// Malformed arguments; no cycle earns (question 13); a cycle without reward makes money (question 14); or the least ratio p / q, in lowest
+// terms, of a cycle that earns, and the number of arcs of one that has it.
 pub enum RatioAnswer {
     Malformed,
-    NoCycle,
-    NoReward,
+    NoneEarns,
+    IdleGain,
     Ratio(i64, u64, usize),
 }
 
@@ -38,11 +38,21 @@ pub fn least_ratio(
     }
     let mut unused = [0i64; 2048];
     let mut hand = [0usize; 2048];
-    let any = Coefficients { a: 0, b: 0, c: -1 };
-    let found = graph::negative_cycle(from, to, cost, reward, any, nodes, &mut unused, &mut hand);
+    // The loop begins above every ratio, at 1 / 0: there just the cycles that earn are negative.
+    let by_reward = Coefficients { a: 0, b: -1, c: 0 };
+    let found = graph::negative_cycle(
+        from,
+        to,
+        cost,
+        reward,
+        by_reward,
+        nodes,
+        &mut unused,
+        &mut hand,
+    );
     match found {
         graph::Answer::Malformed => RatioAnswer::Malformed,
-        graph::Answer::Potentials => RatioAnswer::NoCycle,
+        graph::Answer::Potentials => RatioAnswer::NoneEarns,
         graph::Answer::Cycle(k) => improve::beyond(
             from,
             to,

@@ -28,11 +28,11 @@ fn run(name: &[u8], from: &[u16], to: &[u16], cost: &[i16], reward: &[u16], node
         RatioAnswer::Malformed => {
             io::write_all(STDOUT_FILENO, b"malformed");
         }
-        RatioAnswer::NoCycle => {
-            io::write_all(STDOUT_FILENO, b"no cycle");
+        RatioAnswer::NoneEarns => {
+            io::write_all(STDOUT_FILENO, b"none earns");
         }
-        RatioAnswer::NoReward => {
-            io::write_all(STDOUT_FILENO, b"no reward");
+        RatioAnswer::IdleGain => {
+            io::write_all(STDOUT_FILENO, b"an idle cycle gains");
         }
         RatioAnswer::Ratio(p, q, arcs) => {
             print_ratio(p, q, arcs);
@@ -53,6 +53,30 @@ fn ring(name: &[u8], price: i16, first: u16, other: u16) {
         to[i as usize] = (i + 1) % 2048;
     }
     run(name, &from, &to, &cost, &reward, 2048);
+}
+
+// A loop that costs c and earns 5, and an idle one that costs d.
+fn beside(name: &[u8], c: i16, d: i16) {
+    run(name, &[0, 0], &[0, 0], &[c, d], &[5, 0], 1);
+}
+
+fn idle() {
+    beside(b"an idle cycle that costs", 1, 1);
+    beside(b"an idle cycle that is free, at a ratio of 0", 0, 0);
+    beside(b"an idle cycle that makes money", 1, -1);
+    beside(
+        b"an idle cycle that makes money, beside one that makes more",
+        -2,
+        -1,
+    );
+    run(
+        b"only an idle cycle, which makes money",
+        &[0],
+        &[0],
+        &[-1],
+        &[0],
+        1,
+    );
 }
 
 fn main() {
@@ -77,18 +101,12 @@ fn main() {
         &[1, 1],
         3,
     );
-    run(
-        b"an idle cycle beside one that earns",
-        &[0, 0],
-        &[0, 0],
-        &[1, 1],
-        &[5, 0],
-        1,
-    );
+    idle();
     run(b"an arc to no node", &[0], &[1], &[1], &[1], 1);
     run(b"no node", &[], &[], &[], &[], 0);
     ring(b"largest cost", 10000, 1, 0);
     ring(b"least cost", -10000, 1, 0);
     ring(b"largest cost and reward", 10000, 10000, 10000);
     ring(b"a ring that earns nothing", 1, 0, 0);
+    ring(b"a ring that makes money and earns nothing", -10000, 0, 0);
 }

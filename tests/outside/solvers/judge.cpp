@@ -1,7 +1,9 @@
 // Judges the ratios of graphs by two solvers of others: LEMON's HowardMmc, exactly, and Boost's
 // minimum_cycle_ratio, in floating point. Reads what `compare graphs` writes.
+// usage: judge [GRAPHS [IDLE]], the least number of graphs, and of those with an idle cycle
 #include "boost_ratio.h"
 #include "graph.h"
+#include "idle_cycle.h"
 #include "lemon_mean.h"
 
 #include <cstdio>
@@ -11,6 +13,7 @@ namespace {
 
 struct Tally {
     long graphs = 0, nodes = 0, arcs = 0;
+    long with_idle = 0;
     long boost_agrees = 0, boost_differs = 0, boost_finds_none = 0;
 };
 
@@ -24,15 +27,17 @@ std::string ratio_text(const Graph &graph) {
     return std::to_string(graph.p) + "/" + std::to_string(graph.q);
 }
 
-// The least mean of the weights q * cost - p * reward is 0 just where p/q is the least ratio.
+// The least mean is from -1 on and below 0 just where p/q is the least ratio of a cycle that earns,
+// and no cycle without reward costs less than 0.
 int judge_lemon(const Graph &graph) {
     const Mean mean = lemon_mean(graph);
     if (!mean.found) return fail(graph, "LEMON finds no cycle");
-    if (mean.weight == 0) return 0;
-    const std::string side = mean.weight < 0 ? "below" : "above";
-    return fail(graph, "LEMON: the least ratio is " + side + " " + ratio_text(graph) +
-                           ", the least mean weight is " + std::to_string(mean.weight) + "/" +
-                           std::to_string(mean.arcs));
+    if (-mean.arcs <= mean.weight && mean.weight < 0) return 0;
+    const std::string found = mean.weight < 0
+                                  ? " is below " + ratio_text(graph) + ", or an idle cycle below 0"
+                                  : " is above " + ratio_text(graph) + ", or no cycle earns";
+    return fail(graph, "LEMON: the least ratio" + found + "; the least mean is " +
+                           std::to_string(mean.weight) + "/" + std::to_string(mean.arcs));
 }
 
 // Boost rounds, so a ratio of its own that differs is only counted. The cycle that it names is
@@ -57,34 +62,46 @@ void print(const Tally &tally) {
     std::printf("graphs of accepted sheets judged by other solvers\n");
     std::printf("  %9ld  graphs, %ld nodes and %ld arcs in all\n", tally.graphs, tally.nodes,
                 tally.arcs);
-    std::printf("  %9ld  LEMON, exact: the ratio is the least\n", tally.graphs);
+    std::printf("  %9ld  with an idle cycle, not for Boost\n", tally.with_idle);
+    std::printf("  %9ld  LEMON, exact: the ratio is the least of a cycle that earns\n",
+                tally.graphs);
     std::printf("  %9ld  Boost, rounding: agrees within 10^-6\n", tally.boost_agrees);
     std::printf("  %9ld  Boost, rounding: differs\n", tally.boost_differs);
     std::printf("  %9ld  Boost, rounding: names no cycle\n", tally.boost_finds_none);
+}
+
+int judge_tally(const Tally &tally, long least, long least_idle) {
+    if (!std::cin.eof() || tally.graphs < least || tally.with_idle < least_idle) {
+        std::fprintf(stderr,
+                     "FAILED %ld graphs were read, %ld with an idle cycle, expected %ld and "
+                     "%ld at least\n",
+                     tally.graphs, tally.with_idle, least, least_idle);
+        return 1;
+    }
+    if (tally.boost_agrees * 100 < (tally.graphs - tally.with_idle) * 98) {
+        std::fprintf(stderr, "FAILED Boost agrees on fewer than 98 graphs in 100\n");
+        return 1;
+    }
+    return 0;
 }
 
 }  // namespace
 
 int main(int argc, char **argv) {
     const long least = argc > 1 ? std::atol(argv[1]) : 1;
+    const long least_idle = argc > 2 ? std::atol(argv[2]) : 0;
     std::ios::sync_with_stdio(false);
     Tally tally;
     Graph graph;
     while (read_graph(std::cin, graph)) {
-        if (judge_lemon(graph) != 0 || judge_boost(graph, tally) != 0) return 1;
+        // Boost divides by the reward of every cycle that it meets
+        const bool idle = idle_cycle(graph);
+        if (judge_lemon(graph) != 0 || (!idle && judge_boost(graph, tally) != 0)) return 1;
         ++tally.graphs;
+        tally.with_idle += idle;
         tally.nodes += graph.nodes;
         tally.arcs += static_cast<long>(graph.arcs.size());
     }
     print(tally);
-    if (!std::cin.eof() || tally.graphs < least) {
-        std::fprintf(stderr, "FAILED %ld graphs were read, expected %ld at least\n", tally.graphs,
-                     least);
-        return 1;
-    }
-    if (tally.boost_agrees * 100 < tally.graphs * 98) {
-        std::fprintf(stderr, "FAILED Boost agrees on fewer than 98 graphs in 100\n");
-        return 1;
-    }
-    return 0;
+    return judge_tally(tally, least, least_idle);
 }

@@ -6,12 +6,26 @@
 #include <lemon/howard_mmc.h>
 #include <lemon/smart_graph.h>
 
+#include <limits>
+
 struct Mean {
     bool found;
     long long weight;
     int arcs;
 };
 
+// LEMON sums weights times numbers of arcs, beyond 64 bits in the extreme.
+template <typename Digraph, typename Weights>
+struct WideSums : lemon::HowardMmcDefaultTraits<Digraph, Weights> {
+    typedef __int128 LargeCost;
+    typedef lemon::Tolerance<LargeCost> Tolerance;
+    static_assert(std::numeric_limits<LargeCost>::is_integer, "the library has to know the type");
+};
+
+// The mean tells where p/q stands. With w for q * cost - p * reward, an arc weighs w times one more
+// than there are nodes, and 1 less where it earns. A cycle that meets no node twice then has a mean
+// below -1 just where its w is below 0; from -1 on and below 0 just where its w is 0 and it earns;
+// and 0 or more otherwise: also where its w is 0 and it earns nothing.
 inline Mean lemon_mean(const Graph &graph) {
     typedef lemon::SmartDigraph Digraph;
     typedef Digraph::ArcMap<long long> Weights;
@@ -23,12 +37,10 @@ inline Mean lemon_mean(const Graph &graph) {
     for (const Arc &arc : graph.arcs) {
         const Digraph::Arc added =
             digraph.addArc(digraph.nodeFromId(arc.from), digraph.nodeFromId(arc.to));
-        weights[added] = graph.q * arc.cost - graph.p * arc.reward;
+        const long long weight = graph.q * arc.cost - graph.p * arc.reward;
+        weights[added] = weight * (graph.nodes + 1) - (arc.reward > 0 ? 1 : 0);
     }
-    typedef lemon::HowardMmc<Digraph, Weights> Howard;
-    static_assert(sizeof(Howard::LargeCost) == 8 && Howard::LargeCost(1) / 2 == 0,
-                  "LEMON has to count in 64-bit integers");
-    Howard howard(digraph, weights);
+    lemon::HowardMmc<Digraph, Weights, WideSums<Digraph, Weights>> howard(digraph, weights);
     if (!howard.findCycleMean()) return Mean{false, 0, 0};
     return Mean{true, howard.cycleCost(), howard.cycleSize()};
 }

@@ -1,17 +1,17 @@
 //! The kinds of cases that the random sheets promise to cover.
 
-use crate::expected::{weighted, Expected};
+use crate::expected::Expected;
 use crate::explore::{Graph, MOST_NODES};
 use crate::judge_plan::Answer;
+use crate::questions::{idle_cycles, Idle};
 use crate::sheet::Sheet;
 use crate::tally::Tally;
-use crate::weights::least_weights;
 
 /// How many sheets are made where no number is given.
 pub const SHEETS: u64 = 20_000;
 
 /// Each kind and the least number of its cases among so many sheets.
-pub const PROMISED: [(&str, u64); 51] = [
+pub const PROMISED: [(&str, u64); 67] = [
     ("plan answers:  0", 4000),
     ("plan answers:  1", 20_000),
     ("plan answers:  2", 100),
@@ -25,8 +25,8 @@ pub const PROMISED: [(&str, u64); 51] = [
     ("plan answers: 10", 100),
     ("plan answers: 11", 100),
     ("plan answers: 12", 200),
-    ("plan answers: 13", 200),
-    ("plan answers: 14", 200),
+    ("plan answers: 13", 2000),
+    ("plan answers: 14", 400),
     ("step answers:  0", 100_000),
     ("step answers:  2", 1000),
     ("step answers:  3", 1000),
@@ -49,6 +49,8 @@ pub const PROMISED: [(&str, u64); 51] = [
     ("accepted: ratio 0", 50),
     ("accepted: ratio not whole", 500),
     ("accepted: q above 100,000", 100),
+    ("accepted: ratio above 1,000,000", 50),
+    ("accepted: ratio below -1,000,000", 50),
     ("accepted: a potential below 0", 500),
     ("accepted: a potential below -10^10", 50),
     ("accepted: no stem", 100),
@@ -57,11 +59,25 @@ pub const PROMISED: [(&str, u64); 51] = [
     ("accepted: 2,000 to 2,047 nodes", 50),
     ("accepted: 2,048 nodes", 50),
     ("accepted: 40,000 arcs and more", 50),
+    ("accepted: idle cycles, none", 4000),
+    ("accepted: idle cycles, all cost", 300),
+    ("accepted: idle cycles, all free", 200),
+    ("accepted: idle cycles, some cost and some are free", 150),
+    ("accepted: idle cycles and 2,000 nodes and more", 100),
     ("longer buffers, plan answers:  0", 500),
     ("longer buffers, plan answers: 12", 50),
     ("longer buffers, plan answers: 13", 50),
+    ("longer buffers, plan answers: 14", 50),
     ("refused 12: 2,049 nodes", 50),
-    ("refused 14: another cycle earns", 100),
+    ("refused 13: idle cycles, none", 1000),
+    ("refused 13: idle cycles, all cost", 200),
+    ("refused 13: idle cycles, all free", 200),
+    ("refused 13: idle cycles, some cost and some are free", 50),
+    ("refused 13: idle cycles, some gain and none costs", 100),
+    ("refused 13: idle cycles, some gain and some cost", 100),
+    ("refused 13: idle cycles, and an arc earns", 300),
+    ("refused 14: idle cycles, some gain and none costs", 200),
+    ("refused 14: idle cycles, some gain and some cost", 100),
     ("length: 580 bytes", 100),
 ];
 
@@ -87,6 +103,8 @@ pub fn count_accepted(tally: &mut Tally, sheet: &Sheet, graph: &Graph, answer: &
         ("ratio 0", answer.p == 0),
         ("ratio not whole", answer.q > 1),
         ("q above 100,000", answer.q > 100_000),
+        ("ratio above 1,000,000", answer.p > 1_000_000 * answer.q),
+        ("ratio below -1,000,000", answer.p < -1_000_000 * answer.q),
         ("a potential below 0", answer.lowest_potential < 0),
         ("a potential below -10^10", answer.lowest_potential < -10_000_000_000),
         ("no stem", answer.stem == 0),
@@ -99,11 +117,11 @@ pub fn count_accepted(tally: &mut Tally, sheet: &Sheet, graph: &Graph, answer: &
     for (kind, _) in kinds.iter().filter(|(_, holds)| *holds) {
         tally.count(format!("accepted: {kind}"));
     }
-}
-
-/// Where a cycle earns, it weighs less than 0 once rewards are deducted.
-fn some_cycle_earns(graph: &Graph) -> bool {
-    least_weights(graph.numbers.len(), &weighted(graph, 1, 0)).is_none()
+    let idle = idle_cycles(nodes, &graph.arcs);
+    tally.count(format!("accepted: idle cycles, {}", idle.named()));
+    if idle != Idle::NoneThere && nodes >= 2000 {
+        tally.count("accepted: idle cycles and 2,000 nodes and more");
+    }
 }
 
 pub fn count_refused(tally: &mut Tally, expected: &Expected) {
@@ -115,7 +133,12 @@ pub fn count_refused(tally: &mut Tally, expected: &Expected) {
     if expected.refusal == 12 && nodes == MOST_NODES + 1 {
         tally.count("refused 12: 2,049 nodes");
     }
-    if expected.refusal == 14 && some_cycle_earns(graph) {
-        tally.count("refused 14: another cycle earns");
+    if expected.refusal > 12 {
+        let idle = idle_cycles(nodes, &graph.arcs);
+        tally.count(format!("refused {}: idle cycles, {}", expected.refusal, idle.named()));
+        let earns = graph.arcs.iter().any(|arc| arc.reward > 0);
+        if expected.refusal == 13 && idle != Idle::NoneThere && earns {
+            tally.count("refused 13: idle cycles, and an arc earns");
+        }
     }
 }

@@ -1,8 +1,8 @@
 //! What the specification has a plan answer, as far as it is settled without the ratio.
 
 use crate::explore::{explore, Graph, MOST_NODES};
+use crate::questions::{some_cycle_earns, some_idle_cycle_gains};
 use crate::sheet::{read, Sheet};
-use crate::weights::{has_cycle, Weighted};
 
 pub struct Expected {
     pub refusal: u8,
@@ -17,15 +17,11 @@ pub const COUNTED: usize = 2300;
 
 fn refusal_of(graph: &Graph) -> u8 {
     let nodes = graph.numbers.len();
-    let ends = |idle_only: bool| -> Vec<(usize, usize)> {
-        let chosen = graph.arcs.iter().filter(|arc| !idle_only || arc.reward == 0);
-        chosen.map(|arc| (arc.from, arc.to)).collect()
-    };
     if nodes > MOST_NODES {
         12
-    } else if !has_cycle(nodes, &ends(false)) {
+    } else if !some_cycle_earns(nodes, &graph.arcs) {
         13
-    } else if has_cycle(nodes, &ends(true)) {
+    } else if some_idle_cycle_gains(nodes, &graph.arcs) {
         14
     } else {
         0
@@ -40,12 +36,4 @@ pub fn expect(bytes: &[u8]) -> Expected {
             Expected { refusal: refusal_of(&graph), sheet: Some(sheet), graph: Some(graph) }
         }
     }
-}
-
-/// The arcs with weight q times cost minus p times reward.
-pub fn weighted(graph: &Graph, p: i64, q: i64) -> Vec<Weighted> {
-    let weight = |cost: i64, reward: i64| {
-        i128::from(q) * i128::from(cost) - i128::from(p) * i128::from(reward)
-    };
-    graph.arcs.iter().map(|arc| (arc.from, arc.to, weight(arc.cost, arc.reward))).collect()
 }

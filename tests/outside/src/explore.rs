@@ -2,19 +2,15 @@
 
 use crate::region::{node_of, step, Node, MOVE};
 use crate::sheet::Sheet;
+use crate::weights::Arc;
 use std::collections::HashMap;
-
-pub struct Arc {
-    pub from: usize,
-    pub to: usize,
-    pub cost: i64,
-    pub reward: i64,
-}
 
 pub struct Graph {
     /// Node numbers in the order of discovery; the start is the first.
     pub numbers: Vec<u32>,
     pub arcs: Vec<Arc>,
+    /// The code of each arc.
+    pub codes: Vec<u16>,
 }
 
 pub const MOST_NODES: usize = 2048;
@@ -24,7 +20,7 @@ pub fn explore(sheet: &Sheet, limit: usize) -> Graph {
     let start = node_of(sheet, 0).expect("the start is a node of every sheet that is read");
     let mut found: HashMap<u32, usize> = HashMap::from([(0, 0)]);
     let mut nodes: Vec<Node> = vec![start];
-    let mut arcs = Vec::new();
+    let (mut arcs, mut codes) = (Vec::new(), Vec::new());
     let mut from = 0;
     while from < nodes.len() && nodes.len() <= limit {
         for code in 0..=MOVE {
@@ -34,9 +30,10 @@ pub fn explore(sheet: &Sheet, limit: usize) -> Graph {
                     nodes.len() - 1
                 });
                 arcs.push(Arc { from, to, cost, reward });
+                codes.push(code);
             }
         }
         from += 1;
     }
-    Graph { numbers: nodes.iter().map(Node::number).collect(), arcs }
+    Graph { numbers: nodes.iter().map(Node::number).collect(), arcs, codes }
 }

@@ -27,10 +27,26 @@ pub enum Fault {
     Rest,
     /// 13 in place of 14.
     Refusal,
+    /// 13 and 14 exchanged.
+    Exchanged,
+    /// 14 is asked before 13.
+    Order,
+    /// 14 for idle cycles that all cost.
+    IdleCosts,
+    /// 14 for idle cycles that all are free.
+    IdleFree,
+    /// A sheet is accepted with no other cycles than idle ones, none of which costs less than 0.
+    OnlyIdle,
+    /// A sheet is accepted though an idle cycle costs less than 0.
+    Gain,
+    /// The cycle of the lasso is idle and costs 0.
+    IdleLasso,
+    /// The ratio is lower, and the potentials fit it, where an idle cycle costs 0.
+    LowFree,
     /// 12 at 2,048 nodes.
     Border,
     /// 13 for every sheet that is accepted.
-    NoCycle,
+    NoneEarns,
     /// A refusal below 12 writes to a buffer.
     Write,
     /// A refusal from 12 on leaves an entry.
@@ -51,7 +67,7 @@ pub enum Fault {
     Number,
 }
 
-pub const FAULTS: [(&str, Fault); 21] = [
+pub const FAULTS: [(&str, Fault); 29] = [
     ("high", Fault::High),
     ("low", Fault::Low),
     ("terms", Fault::Terms),
@@ -62,8 +78,16 @@ pub const FAULTS: [(&str, Fault); 21] = [
     ("lasso", Fault::Lasso),
     ("rest", Fault::Rest),
     ("refusal", Fault::Refusal),
+    ("exchanged", Fault::Exchanged),
+    ("order", Fault::Order),
+    ("idle-costs", Fault::IdleCosts),
+    ("idle-free", Fault::IdleFree),
+    ("only-idle", Fault::OnlyIdle),
+    ("gain", Fault::Gain),
+    ("idle-lasso", Fault::IdleLasso),
+    ("low-free", Fault::LowFree),
     ("border", Fault::Border),
-    ("no-cycle", Fault::NoCycle),
+    ("none-earns", Fault::NoneEarns),
     ("write", Fault::Write),
     ("leave", Fault::Leave),
     ("unwritten", Fault::Unwritten),
@@ -119,7 +143,7 @@ impl Planner {
                 numbers.m = before.m;
                 refusal
             }
-            (Some(fault), _) => refused(fault, refusal, buffers),
+            (Some(fault), _) => refused(fault, refusal, sheet, buffers, numbers),
         }
     }
 

@@ -1,4 +1,5 @@
-//! A lasso: it is stepped here and by the library, closes, is simple, and has exactly the ratio.
+//! A lasso: it is stepped here and by the library, closes, is simple, and its cycle earns and has
+//! exactly the ratio.
 
 use crate::fault::Planner;
 use crate::judge_plan::{same, Verdict};
@@ -62,7 +63,10 @@ pub fn judge_lasso(
         number = next;
     }
     same("lasso: the node where it closes", number, closing)?;
-    if rewards < 1 || i128::from(q) * costs != i128::from(p) * rewards {
+    if rewards < 1 {
+        return Err(format!("lasso: its cycle earns {rewards}, and costs {costs}"));
+    }
+    if i128::from(q) * costs != i128::from(p) * rewards {
         return Err(format!("lasso: its cycle has {costs}/{rewards}, the ratio is {p}/{q}"));
     }
     Ok(())

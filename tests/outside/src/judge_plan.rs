@@ -1,13 +1,13 @@
 //! A plan of the library against the answer expected here.
 
-use crate::expected::{weighted, Expected};
+use crate::expected::Expected;
 use crate::explore::{Graph, MOST_NODES};
 use crate::fault::Planner;
 use crate::judge_lasso::judge_lasso;
 use crate::marked::{self, Buffers};
 use crate::random::Random;
 use crate::region::UNIT;
-use crate::weights::least_weights;
+use crate::weights::{least_weights, weighted};
 use planner::calls::PlanNumbers;
 
 pub type Verdict<T> = Result<T, String>;
@@ -105,7 +105,7 @@ fn judge_nodes(graph: &Graph, buffers: &Buffers, n: i64) -> Verdict<usize> {
 
 fn judge_potentials(graph: &Graph, buffers: &Buffers, p: i64, q: i64) -> Verdict<()> {
     let count = graph.numbers.len();
-    let least = least_weights(count, &weighted(graph, p, q))
+    let least = least_weights(count, &weighted(&graph.arcs, p.into(), q.into()))
         .ok_or_else(|| format!("ratio: a reachable cycle is below {p}/{q}"))?;
     for (number, weight) in graph.numbers.iter().zip(least) {
         let at = buffers.nodes[..count].binary_search(number).expect("the list was compared");

@@ -1,29 +1,33 @@
 //! The kinds of sheets: one seed gives one sheet.
 
 use crate::border::exact;
+use crate::built::{dear_ring, long, ring};
 use crate::damage::{damage, damage_more, noise};
-use crate::generate::{cost, reward, sheet, Prices, Shape};
+use crate::generate::{sheet, Prices, Shape};
+use crate::idle::{lay, take_rewards, take_some_rewards, Laid};
 use crate::random::Random;
-use crate::sheet::Edge;
 use crate::write::write;
 
 /// Each kind and how many of a thousand sheets are of it.
-const KINDS: [(&str, u64); 16] = [
+const KINDS: [(&str, u64); 19] = [
     ("tiny", 80),
-    ("small", 150),
-    ("strict", 60),
-    ("closed", 60),
+    ("small", 130),
+    ("strict", 50),
+    ("closed", 50),
     ("large", 60),
     ("border", 80),
     ("dense", 20),
     ("too many", 40),
     ("no cycle", 50),
-    ("idle", 60),
+    ("idle, costs", 50),
+    ("idle, free", 40),
+    ("idle, gains", 50),
     ("extreme", 50),
     ("ring", 20),
+    ("dear ring", 10),
     ("long", 20),
-    ("damaged", 130),
-    ("damaged more", 90),
+    ("damaged", 100),
+    ("damaged more", 70),
     ("noise", 30),
 ];
 
@@ -75,7 +79,12 @@ fn border_bytes(random: &mut Random, dense: bool) -> Vec<u8> {
     let nodes = if near { random.within(2046, 2051) } else { random.within(1950, 2150) };
     let made = exact(random, &shape, nodes as usize, if dense { 32 } else { 20 });
     // Where no padding came out even, the shape's own sheet takes its place.
-    write(&made.unwrap_or_else(|| sheet(random, &shape))).bytes
+    let mut made = made.unwrap_or_else(|| sheet(random, &shape));
+    if random.percent(30) {
+        take_some_rewards(random, &mut made);
+        lay(random, &mut made, Laid::CostOrFree, shape.prices);
+    }
+    write(&made).bytes
 }
 
 fn shape_of(random: &mut Random, kind: &str) -> Shape {
@@ -95,10 +104,10 @@ fn shape_of(random: &mut Random, kind: &str) -> Shape {
             ..small
         },
         "no cycle" => Shape { forward: random.percent(70), guards: 80, ..small },
-        "idle" => Shape { earning: random.pick(&[0, 40, 80]), guards: 20, ..small },
+        "idle" => Shape { earning: random.pick(&[20, 50, 80]), guards: 20, ..small },
         "extreme" => Shape { prices: Prices::Extreme, earning: 100, rates: 100, ..small },
-        "ring" => Shape {
-            locations: 2 + random.below(11),
+        "ring" | "dear ring" => Shape {
+            locations: if kind == "ring" { 2 + random.below(11) } else { 11 + random.below(2) },
             edges: 0,
             bound: 12,
             room: 100_000,
@@ -120,38 +129,26 @@ fn shape_of(random: &mut Random, kind: &str) -> Shape {
     }
 }
 
-/// Locations in a ring, each left only after a long time: the ratio has a great denominator.
-fn ring_bytes(random: &mut Random) -> Vec<u8> {
-    let shape = shape_of(random, "ring");
+/// Half of the sheets or so have cycles that earn beside the idle ones.
+fn idle_bytes(random: &mut Random, laid: &[Laid]) -> Vec<u8> {
+    let shape = shape_of(random, "idle");
     let mut made = sheet(random, &shape);
-    let count = made.locations.len();
-    for (source, location) in made.locations.iter_mut().enumerate() {
-        location.upper = [random.pick(&[22, 23, 24, 25]); 3];
-        location.reward = reward(random, shape.prices);
-        let mut edge = Edge { source, target: (source + 1) % count, mask: 7, ..Edge::default() };
-        edge.mask >>= 3 - shape.clocks;
-        (edge.cost, edge.reward) = (cost(random, shape.prices), reward(random, shape.prices));
-        edge.lower[0] = Some(random.within(18, 21) as u8);
-        made.edges.push(edge);
+    if random.percent(40) {
+        take_rewards(random, &mut made, shape.prices);
     }
+    let laid = random.pick(laid);
+    lay(random, &mut made, laid, shape.prices);
     write(&made).bytes
 }
 
-/// A sheet with every field of the format, so of the greatest length.
-fn long_bytes(random: &mut Random) -> Vec<u8> {
-    let shape = shape_of(random, "long");
-    let mut made = sheet(random, &shape);
-    for location in &mut made.locations {
-        (location.cost, location.reward) = (random.within(-9, -1), random.within(1, 9));
+fn damaged_bytes(random: &mut Random, more: bool) -> Vec<u8> {
+    let shape = shape_of(random, "small");
+    let made = write(&sheet(random, &shape));
+    if more {
+        damage_more(random, &made)
+    } else {
+        damage(random, &made)
     }
-    for (place, edge) in made.edges.iter_mut().enumerate() {
-        (edge.cost, edge.reward) = (random.within(-9, -1), random.within(1, 9));
-        edge.mask = edge.mask.max(1);
-        if place < 16 {
-            (edge.lower, edge.upper) = ([Some(1); 3], [Some(25); 3]);
-        }
-    }
-    write(&made).bytes
 }
 
 /// The kind and the bytes of the sheet that has this seed.
@@ -167,21 +164,21 @@ pub fn generate(seed: u64) -> (&'static str, Vec<u8>) {
     let bytes = match kind {
         "border" => border_bytes(random, false),
         "dense" => border_bytes(random, true),
-        "ring" => ring_bytes(random),
-        "long" => long_bytes(random),
-        "damaged" | "damaged more" => {
-            let shape = shape_of(random, "small");
-            let made = write(&sheet(random, &shape));
-            if kind == "damaged" {
-                damage(random, &made)
-            } else {
-                damage_more(random, &made)
-            }
-        }
+        "idle, costs" => idle_bytes(random, &[Laid::Cost, Laid::CostOrFree]),
+        "idle, free" => idle_bytes(random, &[Laid::Free]),
+        "idle, gains" => idle_bytes(random, &[Laid::GainOrCost]),
+        "damaged" => damaged_bytes(random, false),
+        "damaged more" => damaged_bytes(random, true),
         "noise" => noise(random),
         _ => {
             let shape = shape_of(random, kind);
-            write(&sheet(random, &shape)).bytes
+            let made = match kind {
+                "ring" => ring(random, &shape),
+                "dear ring" => dear_ring(random, &shape),
+                "long" => long(random, &shape),
+                _ => sheet(random, &shape),
+            };
+            write(&made).bytes
         }
     };
     (kind, bytes)

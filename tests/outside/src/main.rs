@@ -2,8 +2,10 @@
 
 mod arguments;
 mod border;
+mod built;
 mod cases;
 mod coverage;
+mod cyclic;
 mod damage;
 mod expected;
 mod explore;
@@ -11,6 +13,8 @@ mod fault;
 mod generate;
 mod graphs;
 mod hexadecimal;
+mod idle;
+mod idle_lasso;
 mod judge_check;
 mod judge_lasso;
 mod judge_plan;
@@ -20,6 +24,7 @@ mod marked;
 mod nths;
 mod planted;
 mod program;
+mod questions;
 mod random;
 mod region;
 mod runs;
@@ -36,7 +41,7 @@ const USAGE: &str = "compare COMMAND [--seed N] [--count N] [--complete] [--faul
   sheets               random sheets through the library and the implementation here
   cases FOLDER         the frozen cases
   program FILE FOLDER  the printing program on the frozen plans
-  nths                 a search for a loop below the ratio among runs in nths
+  nths                 the loops of runs in nths against the plans of small sheets
   graphs [FOLDER]      the graphs of accepted sheets, for the solvers";
 
 fn run() -> Result<(), String> {

@@ -1,14 +1,17 @@
-//! A search for a loop below the ratio among the runs in nths of small sheets.
+//! Runs in nths of small sheets, searched for what a plan's answer rules out, and for what it
+//! promises where no bound and no guard is strict.
 
 use crate::arguments::Arguments;
 use crate::coverage::all_closed;
 use crate::fault::Planner;
 use crate::generate::{sheet, Shape};
 use crate::hexadecimal;
+use crate::idle::{lay, take_rewards, Laid};
 use crate::judge_plan::Verdict;
 use crate::kinds::{small_shape, tiny_shape};
+use crate::questions::{idle_cycles, some_cycle_earns, some_idle_cycle_gains, Idle};
 use crate::random::Random;
-use crate::runs::{explore, loop_below, some_loop, Runs};
+use crate::runs::{explore, loop_below, Runs};
 use crate::sheet::Sheet;
 use crate::tally::Tally;
 use crate::write::write;
@@ -16,16 +19,32 @@ use crate::write::write;
 const MOST_NTHS: u32 = 4;
 
 /// How many sheets are searched where no number is given.
-const SHEETS: u64 = 3000;
+const SHEETS: u64 = 10_000;
 
 /// Each kind and the least number of its cases among so many sheets.
-const PROMISED: [(&str, u64); 4] =
-    [(NONE_BELOW, 1000), (CLOSED_ATTAINED, 300), (STRICT_NOT_ATTAINED, 100), (NO_LOOP, 100)];
+const PROMISED: [(&str, u64); 13] = [
+    (NONE_BELOW, 3000),
+    ("accepted: idle loops, all cost", 200),
+    ("accepted: idle loops, all free", 100),
+    ("accepted: idle loops, some cost and some are free", 20),
+    (CLOSED_ATTAINED, 1000),
+    (STRICT_NOT_ATTAINED, 300),
+    (NONE_EARNS, 2000),
+    ("refused 13: idle loops, none", 1000),
+    ("refused 13: idle loops, all cost", 200),
+    ("refused 13: idle loops, all free", 200),
+    ("refused 13: idle loops, some gain and none costs", 100),
+    ("refused 13: idle loops, some gain and some cost", 100),
+    (CLOSED_GAINS, 50),
+];
 
-const NONE_BELOW: &str = "accepted: no loop below the ratio for n = 1, 2, 3, 4";
+const NONE_BELOW: &str =
+    "accepted: no loop below the ratio, and no idle one below 0, for n = 1, 2, 3, 4";
 const CLOSED_ATTAINED: &str = "all closed, attained: n = 1";
 const STRICT_NOT_ATTAINED: &str = "some strict, attained: not with n up to 4";
-const NO_LOOP: &str = "refused 13: no run comes back for n = 1, 2, 3, 4";
+const NONE_EARNS: &str = "refused 13: no loop earns for n = 1, 2, 3, 4";
+const CLOSED_GAINS: &str =
+    "refused 14: all closed, and with n = 1 a loop earns and an idle one gains";
 
 /// So little more than p/q that no ratio of another loop lies between. Such a ratio a/b is at least
 /// 1/(b q) away, and b, n times the reward of a loop through at most 30,000 states, is below 10^12.
@@ -34,13 +53,31 @@ fn raised(p: i64, q: i64) -> (i128, i128) {
     (i128::from(p) * scale + 1, i128::from(q) * scale)
 }
 
+fn earns(runs: &Runs) -> bool {
+    some_cycle_earns(runs.states, &runs.members)
+}
+
+fn idle_gains(runs: &Runs) -> bool {
+    some_idle_cycle_gains(runs.states, &runs.members)
+}
+
+/// What the idle loops cost, in the finest nths.
+fn idle_loops(all: &[Runs]) -> Idle {
+    let finest = all.last().expect("some n is tried");
+    idle_cycles(finest.states, &finest.members)
+}
+
 fn judge_accepted(sheet: &Sheet, all: &[Runs], p: i64, q: i64, tally: &mut Tally) -> Verdict<()> {
     for (n, runs) in (1..).zip(all) {
+        if idle_gains(runs) {
+            return Err(format!("an idle loop of a run in nths, n = {n}, costs less than 0"));
+        }
         if loop_below(runs, i128::from(p), i128::from(q)) {
             return Err(format!("a loop of a run in nths, n = {n}, is below the ratio {p}/{q}"));
         }
     }
     tally.count(NONE_BELOW);
+    tally.count(format!("accepted: idle loops, {}", idle_loops(all).named()));
     let (above_p, above_q) = raised(p, q);
     let attained = (1..).zip(all).find(|(_, runs)| loop_below(runs, above_p, above_q));
     match (all_closed(sheet), attained.map(|(n, _): (u32, _)| n)) {
@@ -49,6 +86,32 @@ fn judge_accepted(sheet: &Sheet, all: &[Runs], p: i64, q: i64, tally: &mut Tally
         (false, None) => tally.count(STRICT_NOT_ATTAINED),
         (false, Some(n)) => tally.count(format!("some strict, attained: n = {n}")),
     }
+    Ok(())
+}
+
+/// Idle loops there may be, whatever they cost.
+fn judge_13(all: &[Runs], tally: &mut Tally) -> Verdict<()> {
+    if let Some(at) = all.iter().position(earns) {
+        return Err(format!("refused 13, but a loop of a run in nths, n = {}, earns", at + 1));
+    }
+    tally.count(NONE_EARNS);
+    tally.count(format!("refused 13: idle loops, {}", idle_loops(all).named()));
+    Ok(())
+}
+
+/// Where a bound or a guard is strict, runs need not come to what their corner points do.
+fn judge_14(sheet: &Sheet, all: &[Runs], tally: &mut Tally) -> Verdict<()> {
+    if !all_closed(sheet) {
+        tally.count("refused 14: some strict");
+        return Ok(());
+    }
+    if !earns(&all[0]) {
+        return Err("refused 14, but no loop with n = 1 earns".to_string());
+    }
+    if !idle_gains(&all[0]) {
+        return Err("refused 14, but no idle loop with n = 1 costs less than 0".to_string());
+    }
+    tally.count(CLOSED_GAINS);
     Ok(())
 }
 
@@ -64,12 +127,8 @@ fn judge_sheet(planner: &Planner, sheet: &Sheet, bytes: &[u8], tally: &mut Tally
     let (refusal, numbers) = planner.answer(bytes);
     match refusal {
         0 => judge_accepted(sheet, &all, numbers.p, numbers.q, tally)?,
-        13 => {
-            if let Some(at) = all.iter().position(some_loop) {
-                return Err(format!("refused 13, but a run in nths, n = {}, comes back", at + 1));
-            }
-            tally.count(NO_LOOP);
-        }
+        13 => judge_13(&all, tally)?,
+        14 => judge_14(sheet, &all, tally)?,
         _ => tally.count(format!("left out: refused {refusal}")),
     }
     tally.add("states: in all", all.iter().map(|runs| runs.states as u64).sum());
@@ -79,14 +138,24 @@ fn judge_sheet(planner: &Planner, sheet: &Sheet, bytes: &[u8], tally: &mut Tally
 fn make(seed: u64) -> Sheet {
     let random = &mut Random::new(seed.wrapping_add(1 << 40));
     let shape = if random.percent(30) { tiny_shape(random) } else { small_shape(random) };
+    let idle = random.percent(45);
     let shape = Shape {
         bound: shape.bound.min(4),
         strict: random.pick(&[0, 0, 50, 100]),
-        earning: 100,
+        earning: if idle { 50 } else { 100 },
         forward: random.percent(8),
         ..shape
     };
-    sheet(random, &shape)
+    let mut made = sheet(random, &shape);
+    if idle {
+        if random.percent(40) {
+            take_rewards(random, &mut made, shape.prices);
+        }
+        let gain = Laid::GainOrCost;
+        let laid = random.pick(&[Laid::Cost, Laid::CostOrFree, Laid::Free, gain, gain]);
+        lay(random, &mut made, laid, shape.prices);
+    }
+    made
 }
 
 pub fn run(arguments: &Arguments) -> Verdict<()> {

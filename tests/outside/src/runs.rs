@@ -3,11 +3,11 @@
 //!
 //! Delays of one nth are enough. Bounds are upper bounds only, so a delay of d nths that ends within
 //! them passes within them too, and is d delays of one nth with the same cost and reward. A delay of
-//! 0 is a loop of cost and reward 0, and never below a ratio. Bounds keep the values at 12 times n at
-//! most, so the states are finite, and a run comes back just where their graph has a cycle.
+//! 0 is a loop that earns nothing and costs 0, and never below a ratio. Bounds keep the values at 12
+//! times n at most, so the states are finite, and the loops of runs are the cycles of their graph.
 
 use crate::sheet::{Edge, Sheet};
-use crate::weights::{has_cycle, least_weights, Weighted};
+use crate::weights::{least_weights, weighted, Arc};
 use std::collections::HashMap;
 
 #[derive(Clone, Copy, PartialEq, Eq, Hash)]
@@ -16,17 +16,10 @@ struct State {
     values: [u32; 3],
 }
 
-/// An arc between states, with n times its cost and n times its reward.
-struct Member {
-    from: usize,
-    to: usize,
-    cost: i64,
-    reward: i64,
-}
-
 pub struct Runs {
     pub states: usize,
-    members: Vec<Member>,
+    /// Arcs between states, with n times the cost and n times the reward of a member.
+    pub members: Vec<Arc>,
 }
 
 /// A sheet with more states than this is left alone.
@@ -89,7 +82,7 @@ pub fn explore(sheet: &Sheet, n: u32) -> Option<Runs> {
                 states.push(next);
                 states.len() - 1
             });
-            members.push(Member { from, to, cost, reward });
+            members.push(Arc { from, to, cost, reward });
         }
         if states.len() > MOST_STATES {
             return None;
@@ -99,16 +92,8 @@ pub fn explore(sheet: &Sheet, n: u32) -> Option<Runs> {
     Some(Runs { states: states.len(), members })
 }
 
-/// Whether some loop has a ratio below p/q.
+/// Whether some loop weighs less than 0 at p/q: it earns and has a ratio below, or it earns nothing
+/// and costs less than 0.
 pub fn loop_below(runs: &Runs, p: i128, q: i128) -> bool {
-    let weight = |member: &Member| q * i128::from(member.cost) - p * i128::from(member.reward);
-    let arcs: Vec<Weighted> =
-        runs.members.iter().map(|member| (member.from, member.to, weight(member))).collect();
-    least_weights(runs.states, &arcs).is_none()
-}
-
-/// Whether some run comes back by a delay or an edge.
-pub fn some_loop(runs: &Runs) -> bool {
-    let ends: Vec<_> = runs.members.iter().map(|member| (member.from, member.to)).collect();
-    has_cycle(runs.states, &ends)
+    least_weights(runs.states, &weighted(&runs.members, p, q)).is_none()
 }

@@ -1,6 +1,22 @@
-//! Least weights and cycles of a graph whose nodes are all reachable from node 0.
+//! Priced arcs, and the least weights of walks along them.
+
+use crate::cyclic::has_cycle;
+
+/// An arc with what it costs and earns.
+pub struct Arc {
+    pub from: usize,
+    pub to: usize,
+    pub cost: i64,
+    pub reward: i64,
+}
 
 pub type Weighted = (usize, usize, i128);
+
+/// The arcs with weight q times cost minus p times reward.
+pub fn weighted(arcs: &[Arc], p: i128, q: i128) -> Vec<Weighted> {
+    let weight = |arc: &Arc| q * i128::from(arc.cost) - p * i128::from(arc.reward);
+    arcs.iter().map(|arc| (arc.from, arc.to, weight(arc))).collect()
+}
 
 /// Whether the arcs last taken to each node close a cycle; such a cycle weighs less than 0.
 fn parents_close(nodes: usize, arcs: &[Weighted], parents: &[Option<usize>]) -> bool {
@@ -8,7 +24,8 @@ fn parents_close(nodes: usize, arcs: &[Weighted], parents: &[Option<usize>]) -> 
     has_cycle(nodes, &taken.collect::<Vec<_>>())
 }
 
-/// The least weights of walks from node 0, or none where a cycle weighs less than 0.
+/// The least weights of walks from node 0, from which all nodes are reached, or none where a cycle
+/// weighs less than 0.
 pub fn least_weights(nodes: usize, arcs: &[Weighted]) -> Option<Vec<i128>> {
     let mut least: Vec<Option<i128>> = vec![None; nodes];
     let mut parents: Vec<Option<usize>> = vec![None; nodes];
@@ -38,24 +55,10 @@ pub fn least_weights(nodes: usize, arcs: &[Weighted]) -> Option<Vec<i128>> {
     None
 }
 
-/// Whether the arcs close a cycle: nodes that no arc enters are taken away until none is left.
-pub fn has_cycle(nodes: usize, arcs: &[(usize, usize)]) -> bool {
-    let mut entering = vec![0usize; nodes];
-    let mut leaving: Vec<Vec<usize>> = vec![Vec::new(); nodes];
-    for &(from, to) in arcs {
-        entering[to] += 1;
-        leaving[from].push(to);
-    }
-    let mut free: Vec<usize> = (0..nodes).filter(|&node| entering[node] == 0).collect();
-    let mut taken = 0;
-    while let Some(node) = free.pop() {
-        taken += 1;
-        for &to in &leaving[node] {
-            entering[to] -= 1;
-            if entering[to] == 0 {
-                free.push(to);
-            }
-        }
-    }
-    taken < nodes
+/// The least weights of walks that may begin at every node, or none where a cycle weighs less than
+/// 0: walks from a further node that has an arc of weight 0 to each.
+pub fn least_from_anywhere(nodes: usize, arcs: &[Weighted]) -> Option<Vec<i128>> {
+    let mut all: Vec<Weighted> = (1..=nodes).map(|node| (0, node, 0)).collect();
+    all.extend(arcs.iter().map(|&(from, to, weight)| (from + 1, to + 1, weight)));
+    least_weights(nodes + 1, &all).map(|mut least| least.split_off(1))
 }

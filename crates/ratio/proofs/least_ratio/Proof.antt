@@ -1,16 +1,17 @@
--- Question 13, and then what follows it.
+-- The search by rewards alone, and then what follows it.
 use mathlib.Core.Path.{refl}
 use mathlib.Core.List.{List}
 use Prim.Native.Nat.{ℕ}
 use borrow.Author.Needs.{needs}
 use native.Mathlib.Omega.{arith}
 use denote.Ref.{now}
-use lib.IntN.{ℤ, pos, negsuc}
+use lib.IntN.{ℤ, pos}
 use lib.ListN.{replicate}
-use Rattle.graph.specs.Answer.{SearchAnswered}
+use Rattle.walks.specs.Weight.{weightOf}
 use Rattle.ratio.specs.Answer.{no-to-13}
-use Rattle.ratio.proofs.Searches.{acyclic}
-use Rattle.ratio.proofs.RatioAnswerLaws.{room, coded, no-graph, found, none, first-hand}
+use Rattle.ratio.proofs.Searches.{earns, none-earns}
+use Rattle.ratio.proofs.RatioAnswerLaws.{room, no-graph, found, none, SearchByReward, by-reward}
+use Rattle.ratio.proofs.TurnLaws.{handed}
 use Rattle.ratio.proofs.least_ratio.Statement.{statement}
 use Rattle.ratio.proofs.least_ratio.Tie as tie
 
@@ -25,14 +26,10 @@ D c = c .negative-cycle .last .1 .1 .1 .1 .1 .1 .0
 abbrev arcs : tie.After-negative-cycle → List ℕ
 arcs c = c .negative-cycle .last .1 .1 .1 .1 .1 .1 .1 .0
 
--- what the search answered: each arc weighs −1
+-- the search is by rewards alone
 searched : (c : tie.After-negative-cycle) → let a = S c .args in
-    SearchAnswered (now (a .from)) (now (a .to)) (now (a .cost)) (now (a .reward)) (pos 0) (pos 0) (negsuc 0) (a .nodes)
-    (replicate 2048 (pos 0)) (D c) (replicate 2048 0) (arcs c) (c .negative-cycle .result)
-searched c =
-    let a = S c .args in
-    coded (now (a .from)) (now (a .to)) (now (a .cost)) (now (a .reward)) (pos 0) (pos 0) (negsuc 0) (a .nodes)
-    (replicate 2048 (pos 0)) (D c) (replicate 2048 0) (arcs c) (c .negative-cycle .result) (c .negative-cycle .ensures) refl refl refl
+    SearchByReward (now (a .from)) (now (a .to)) (now (a .cost)) (now (a .reward)) (a .nodes) (replicate 2048 (pos 0)) (D c) (replicate 2048 0) (arcs c) (c .negative-cycle .result)
+searched c = by-reward (c .negative-cycle .ensures) (record { a-small = omega arith; b-small = omega arith; c-small = omega arith }) refl refl refl refl
 
 returns : tie.Need-returns
 returns c = ((λ w. omega (arith, w .potential-room)), record { potentials = refl; cycles = refl })
@@ -67,29 +64,36 @@ beyond-requires c κs =
     let k = f .found .given .0 .0 in
     let r = f .before .before .before .before in
     let s = S r in
-    let g = found (now (s .args .from)) (now (s .args .to)) (now (s .args .cost)) (now (s .args .reward)) (s .args .nodes) 0 (omega arith)
-    (replicate 2048 (pos 0)) (D r) (replicate 2048 0) (arcs r) (r .negative-cycle .result) (searched r) k (f .found .given .1) in
-    let h = first-hand (now (s .args .from)) (now (s .args .to)) (now (s .args .cost)) (now (s .args .reward)) (s .args .nodes)
-    (replicate 2048 (pos 0)) (D r) (replicate 2048 0) (arcs r) k (r .negative-cycle .kept .1 .1 .1 .1 .1 .1 .1 .0) (room {A = ℕ} 2048 0 (g .0 .nodes)) (g .1) in
-    (record { graph = g .0; potential-room = omega arith; cycle-room = omega arith }, h)
+    let i = searched r in
+    let g = found (now (s .args .from)) (now (s .args .to)) (now (s .args .cost)) (now (s .args .reward)) (pos 0) (i .b) (pos 0) (s .args .nodes)
+    (replicate 2048 (pos 0)) (D r) (replicate 2048 0) (arcs r) (r .negative-cycle .result) (i .answered) k (f .found .given .1) in (
+      record { graph = g .0; potential-room = omega arith; cycle-room = omega arith },
+      (
+        handed (weightOf (pos 0) (i .b) (pos 0) (now (s .args .cost)) (now (s .args .reward)))
+            (omega (arith, r .negative-cycle .kept .1 .1 .1 .1 .1 .1 .1 .0, room {A = ℕ} 2048 0 (g .0 .nodes))) (g .1),
+        earns (now (s .args .from)) (now (s .args .to)) (now (s .args .cost)) (now (s .args .reward)) (i .b) (i .negative) (i .some) _ (g .1 .negative),
+      ),
+    )
 
 returns-3 : tie.Need-returns-3
 returns-3 c =
     let r = c .before .before .before .before in
     let s = S r in
-    let no = no-graph (now (s .args .from)) (now (s .args .to)) (now (s .args .cost)) (now (s .args .reward)) (s .args .nodes) 0 (omega arith)
-    (replicate 2048 (pos 0)) (D r) (replicate 2048 0) (arcs r) (r .negative-cycle .result) (searched r) in
-    ((λ w. no (room 2048 (pos 0) (w .graph .nodes)) (room {A = ℕ} 2048 0 (w .graph .nodes)) (c .enum-told .given .1) (w .graph)), record { potentials = refl; cycles = refl })
+    let i = searched r in
+    let no = no-graph (now (s .args .from)) (now (s .args .to)) (now (s .args .cost)) (now (s .args .reward)) (pos 0) (i .b) (pos 0) (s .args .nodes)
+    (replicate 2048 (pos 0)) (D r) (replicate 2048 0) (arcs r) (r .negative-cycle .result) (i .answered) in
+    ((λ w. no (i .in-range) (room 2048 (pos 0) (w .graph .nodes)) (room {A = ℕ} 2048 0 (w .graph .nodes)) (c .enum-told .given .1) (w .graph)), record { potentials = refl; cycles = refl })
 
 returns-4 : tie.Need-returns-4
 returns-4 c =
     let r = c .before .before .before .before in
     let s = S r in
-    let g = none (now (s .args .from)) (now (s .args .to)) (now (s .args .cost)) (now (s .args .reward)) (s .args .nodes) 0 (omega arith)
-    (replicate 2048 (pos 0)) (D r) (replicate 2048 0) (arcs r) (r .negative-cycle .result) (searched r) (c .enum-told2 .given .1) in (
+    let i = searched r in
+    let g = none (now (s .args .from)) (now (s .args .to)) (now (s .args .cost)) (now (s .args .reward)) (pos 0) (i .b) (pos 0) (s .args .nodes)
+    (replicate 2048 (pos 0)) (D r) (replicate 2048 0) (arcs r) (r .negative-cycle .result) (i .answered) (c .enum-told2 .given .1) in (
       (
         record { graph = g .0; potential-room = omega arith; cycle-room = omega arith },
-        no-to-13 refl (acyclic (now (s .args .from)) (now (s .args .to)) _ (now (s .args .cost)) (now (s .args .reward)) (g .1 .none)),
+        no-to-13 refl (none-earns (now (s .args .from)) (now (s .args .to)) (now (s .args .cost)) (now (s .args .reward)) (i .b) (i .negative) (i .some) (g .1 .none)),
       ),
       record { potentials = refl; cycles = refl },
     )

@@ -7,9 +7,9 @@ use lib.IntN.{ℤ, pos}
 use lib.ListN.{replicate}
 use Rattle.ratio.specs.Answer.{RatioAnswered}
 use Rattle.contract.specs.Plan.{Buffers}
-use Rattle.contract.proofs.Exits.{no-cycle-reachable, cycle-earns-nothing}
+use Rattle.contract.proofs.Exits.{no-earning-cycle, idle-cycle-gains}
 use Rattle.planner.specs.ContractTerms.{lentBuffers}
-use Rattle.planner.proofs.GraphLaws.{settled-refused, due-number, never, acyclic, idle, least, each-earns, least-again, cyclic}
+use Rattle.planner.proofs.GraphLaws.{settled-refused, due-number, never, none-earns, idle-gain, least, least-again, cyclic}
 use borrow.Author.Needs.{needs}
 use Rattle.planner.proofs.graphs.plan_graph.Statement.{statement}
 use Rattle.planner.proofs.graphs.plan_graph.Tie as tie
@@ -91,14 +91,15 @@ refused-requires-3 c κs = search needs
 returns : tie.Need-returns
 returns c =
     let l = c .before .before .before .before .before in
-    λ o. settled-refused {after = lent-to (S l)} 13 (due-number (c .refused .ensures) (omega arith)) (omega arith) (no-cycle-reachable (o .bytes) (o .before) (o .long) (o .checked) _ (o .explored)
-    (acyclic (S l .pre .0) (D l) (cycle l) (l .least-ratio .result) (judged l) (c .before .enum-told .given .1)))
+    λ o. settled-refused {after = lent-to (S l)} 13 (due-number (c .refused .ensures) (omega arith)) (omega arith) (no-earning-cycle (o .bytes) (o .before) (o .long) (o .checked) _ (o .explored)
+    (none-earns (S l .pre .0) (D l) (cycle l) (l .least-ratio .result) (judged l) (c .before .enum-told .given .1)))
 
 returns-2 : tie.Need-returns-2
 returns-2 c =
     let l = c .before .before .before .before .before in
-    λ o. settled-refused {after = lent-to (S l)} 14 (due-number (c .refused2 .ensures) (omega arith)) (omega arith) (cycle-earns-nothing (o .bytes) (o .before) (o .long) (o .checked) _ (o .explored)
-    (idle (S l .pre .0) (D l) (cycle l) (l .least-ratio .result) (judged l) (c .before .enum-told2 .given .1)))
+    let w = idle-gain (S l .pre .0) (D l) (cycle l) (l .least-ratio .result) (judged l) (c .before .enum-told2 .given .1) in
+    λ o. settled-refused {after = lent-to (S l)} 14 (due-number (c .refused2 .ensures) (omega arith)) (omega arith) (idle-cycle-gains (o .bytes) (o .before) (o .long) (o .checked) _ (o .explored)
+    (w .0) (w .1))
 
 same-length : tie.Need-same-length
 same-length c = search needs
@@ -119,7 +120,6 @@ returns-3 c =
       cost = now (S l .args .cost);
       reward = now (S l .args .reward);
       of-sheet = o;
-      earns = each-earns (S l .pre .0) (D l) (cycle l) (l .least-ratio .result) (judged l) (g .0 .0) (g .0 .1 .0) (g .0 .1 .1 .0) (g .1);
       potential = _;
       arcs = _;
       least = least-again (S l .pre .0) (D l) (cycle l) (l .least-ratio .result) (judged l) (g .0 .0) (g .0 .1 .0) (g .0 .1 .1 .0) (g .1);

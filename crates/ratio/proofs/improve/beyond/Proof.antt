@@ -1,137 +1,120 @@
--- Question 14, and then the loop.
-use Rattle.integers.proofs.Machine.{small}
-use Rattle.ratio.proofs.TurnLaws.{again-settled}
+-- The loop, and what it comes to.
 use mathlib.Core.Path.{refl}
 use mathlib.Core.List.{List}
 use Prim.Native.Nat.{ℕ, _≤_}
 use borrow.Author.Needs.{needs}
 use native.Mathlib.Omega.{arith}
 use denote.Ref.{now}
-use lib.IntN.{ℤ, pos}
-use lib.ListN.{length, replicate}
-use Rattle.walks.specs.Cycles.{EachEarns}
+use lib.IntN.{ℤ}
+use lib.ListN.{length}
+use Rattle.integers.proofs.Machine.{small}
 use Rattle.ratio.specs.Answer.{no-to-14, yes-to-both}
-use Rattle.ratio.proofs.Searches.{each-earns}
-use Rattle.ratio.proofs.RatioAnswerLaws.{room, no-graph, found, none, SearchForIdle, for-idle, idle-found, copied-front, copied-rest}
+use Rattle.ratio.specs.Turns.{LeastInHand, GainFound}
+use Rattle.ratio.proofs.Searches.{no-idle-gain}
+use Rattle.ratio.proofs.TurnLaws.{settled-gain, settled-least, again-settled}
+use Rattle.ratio.proofs.RatioAnswerLaws.{copied-front, copied-rest}
 use Rattle.ratio.proofs.improve.beyond.Statement.{statement}
 use Rattle.ratio.proofs.improve.beyond.Tie as tie
 
 -- ---- the places, from the end to the start
 
-abbrev T : tie.After-slice-known4 → tie.After-settle
-T c = c .before .before .before .before .before .before .before .before .before
+abbrev K : tie.After-settled → tie.After-settle
+K c = c .before .before .before .before .before
 
-abbrev K : tie.After-settle-arg2 → tie.After-negative-cycle
-K c = c .before .before .before .before .before .before
-
-abbrev S : tie.After-negative-cycle → tie.Start
+abbrev S : tie.After-settle → tie.Start
 S c = c .before .before .before .before .before .before .before .before
 
--- the potentials and the arcs as the search leaves them
-abbrev D : tie.After-negative-cycle → List ℤ
-D c = c .negative-cycle .last .1 .1 .1 .1 .1 .1 .0
+-- the potentials and the cycle as the loop leaves them
+abbrev D : tie.After-settle → List ℤ
+D c = c .settle .last .1 .1 .1 .1 .1 .0
 
-abbrev arcs : tie.After-negative-cycle → List ℕ
-arcs c = c .negative-cycle .last .1 .1 .1 .1 .1 .1 .1 .0
+abbrev hand : tie.After-settle → List ℕ
+hand c = c .settle .last .1 .1 .1 .1 .1 .1 .0
 
--- the search tells cycles that earn nothing
-searched : (c : tie.After-negative-cycle) → let a = S c .args in
-    SearchForIdle (now (a .from)) (now (a .to)) (now (a .cost)) (now (a .reward)) (a .nodes) (replicate 2048 (pos 0)) (D c) (replicate 2048 0) (arcs c) (c .negative-cycle .result)
-searched c = for-idle (c .negative-cycle .ensures) (omega arith) (omega arith)
+gain : (c : tie.After-enum-told) → let t = c .before .before .before .before .before in let a = S t .args in
+    GainFound (now (a .from)) (now (a .to)) (now (a .cost)) (now (a .reward)) (now (a .potential)) (D t)
+gain c =
+    let t = c .before .before .before .before .before in
+    let a = S t .args in
+    settled-gain (now (a .from)) (now (a .to)) (now (a .cost)) (now (a .reward)) (a .nodes) (now (a .potential)) (D t) (hand t)
+    (t .settle .result) (t .settle .ensures) (c .enum-told .given .1)
 
--- no cycle earns nothing
-earns : (c : tie.After-enum-told3) → let s = S (c .before .before .before .before) in EachEarns (now (s .args .from)) (now (s .args .to)) (length (now (s .args .from))) (now (s .args .reward))
-earns c =
-    let r = c .before .before .before .before in
-    let s = S r in
-    let i = searched r in
-    let g = none (now (s .args .from)) (now (s .args .to)) (now (s .args .cost)) (now (s .args .reward)) (s .args .nodes) (i .b) (i .in-range)
-    (replicate 2048 (pos 0)) (D r) (replicate 2048 0) (arcs r) (r .negative-cycle .result) (i .answered) (c .enum-told3 .given .1) in
-    each-earns (now (s .args .from)) (now (s .args .to)) _ (now (s .args .cost)) (now (s .args .reward)) (i .b) (g .1 .none)
+least : (v : tie.After-settled) → let t = K v in let a = S t .args in let g = v .settled .given .0 in
+    LeastInHand (now (a .from)) (now (a .to)) (now (a .cost)) (now (a .reward)) (a .nodes) (now (a .potential)) (D t) (hand t) (g .0) (g .1 .0) (g .1 .1 .0)
+least v =
+    let t = K v in
+    let a = S t .args in
+    let g = v .settled .given in
+    settled-least (now (a .from)) (now (a .to)) (now (a .cost)) (now (a .reward)) (a .nodes) (now (a .potential)) (D t) (hand t)
+    (t .settle .result) (t .settle .ensures) (g .0 .0) (g .0 .1 .0) (g .0 .1 .1 .0) (g .1)
 
-slice-aggregate-negative-cycle : tie.Need-slice-aggregate-negative-cycle
-slice-aggregate-negative-cycle c = search needs
-
-slice-aggregate-negative-cycle-2 : tie.Need-slice-aggregate-negative-cycle-2
-slice-aggregate-negative-cycle-2 c = search needs
-
-negative-cycle-requires : tie.Need-negative-cycle-requires
-negative-cycle-requires c κs = search needs
+settle-requires : tie.Need-settle-requires
+settle-requires c κs = search needs
 
 enum-told : tie.Need-enum-told
 enum-told c = search needs
 
-enum-told-2 : tie.Need-enum-told-2
-enum-told-2 c = search needs
-
-enum-told-3 : tie.Need-enum-told-3
-enum-told-3 c = search needs
-
-settle-requires : tie.Need-settle-requires
-settle-requires c κs =
-    let f = S (c .before .before .before .before .before .before) .pre in
-    (record { formed = record { graph = f .0 .graph; potential-room = f .0 .potential-room; cycle-room = f .1 .room }; earns = earns (c .before .before) }, f .1)
+enum-known-settled : tie.Need-enum-known-settled
+enum-known-settled c = search needs
 
 arcs-requires : tie.Need-arcs-requires
 arcs-requires c κs =
-    let t = c .before .before .before .before .before .before in
-    let h = t .settle .ensures .in-hand in
-    (omega (arith, h .short, h .room), omega (arith, h .short, S (K (t .before)) .pre .0 .cycle-room))
+    let v = c .before .before .before in
+    let h = least v .in-hand in
+    (omega (arith, h .short, h .room), omega (arith, h .short, S (K v) .pre .0 .cycle-room))
+
+same-length : tie.Need-same-length
+same-length c = search needs
+
+same-length-2 : tie.Need-same-length-2
+same-length-2 c = search needs
 
 returns : tie.Need-returns
 returns c =
-    let r = c .before .before .before .before in
-    let s = S r in
-    let g = s .pre .0 .graph in
-    let i = searched r in
-    absurd (no-graph (now (s .args .from)) (now (s .args .to)) (now (s .args .cost)) (now (s .args .reward)) (s .args .nodes) (i .b) (i .in-range)
-    (replicate 2048 (pos 0)) (D r) (replicate 2048 0) (arcs r) (r .negative-cycle .result) (i .answered)
-    (room 2048 (pos 0) (g .nodes)) (room {A = ℕ} 2048 0 (g .nodes)) (c .enum-told .given .1) g)
+    let t = c .before .before .before .before .before in
+    let g = gain c in
+    ((S t .pre .0, no-to-14 refl (g .earning) (g .gain)), record { potentials = g .kept; cycles = refl })
+
+same-length-3 : tie.Need-same-length-3
+same-length-3 c = search needs
+
+same-length-4 : tie.Need-same-length-4
+same-length-4 c = search needs
+
+same-length-5 : tie.Need-same-length-5
+same-length-5 c = search needs
 
 returns-2 : tie.Need-returns-2
 returns-2 c =
-    let r = c .before .before .before .before in
-    let s = S r in
-    let k = c .enum-told2 .given in
-    let i = searched r in
-    let g = found (now (s .args .from)) (now (s .args .to)) (now (s .args .cost)) (now (s .args .reward)) (s .args .nodes) (i .b) (i .in-range)
-    (replicate 2048 (pos 0)) (D r) (replicate 2048 0) (arcs r) (r .negative-cycle .result) (i .answered) (k .0 .0) (k .1) in
-    ((s .pre .0, no-to-14 refl (idle-found (g .0) (i .above) (g .1))), record { potentials = refl; cycles = refl })
-
-same-length : tie.Need-same-length
-same-length c = T c .settle .kept .1 .1 .1 .1 .1 .0
-
-same-length-2 : tie.Need-same-length-2
-same-length-2 c = c .before .before .arcs .kept .1 .0
-
-same-length-3 : tie.Need-same-length-3
-same-length-3 c = T c .settle .kept .1 .1 .1 .1 .1 .1 .0
-
-returns-3 : tie.Need-returns-3
-returns-3 c =
-    let t = T c in
-    let p = t .settle .result .p in
-    let e = t .settle .ensures in
-    let l = again-settled (small p 20480001 (omega (arith, e .p-small)) (omega arith)) e in
+    let v = c .before .before .before .before .before .before in
+    let t = K v in
+    let a = S t .args in
+    let g = v .settled .given .0 in
+    let l = again-settled (small (g .0) 20480001 (omega (arith, least v .p-small)) (omega arith)) (least v) in
     let h = l .in-hand in
+    let k = g .1 .1 .0 in
     let copied = c .before .before .arcs in
-    let k = t .settle .result .arcs in
-    let hand = t .settle .last .1 .1 .1 .1 .1 .1 .0 in
-    let cycle = now (S (K (t .before)) .args .cycle) in
+    let cycle = now (a .cycle) in
     let cycle' = copied .last .1 .0 in
-    let fits : k ≤ length hand = omega (arith, h .short, h .room) in
-    let front = copied-front hand cycle cycle' k fits (copied .ensures) in (
-      (S (K (t .before)) .pre .0, yes-to-both refl _ (h .cycle) (earns (t .before .before .before))),
+    let fits : k ≤ length (hand t) = omega (arith, h .short, h .room) in
+    let front = copied-front (hand t) cycle cycle' k fits (copied .ensures) in (
+      (
+        S t .pre .0,
+        yes-to-both refl (record { arcs = _; cycle = h .cycle; earns = l .earns })
+            (no-idle-gain (g .0) (g .1 .0) (now (a .cost)) (now (a .reward)) (now (a .from)) (now (a .to))
+            (l .ratio .lowest .positive) (least v .none-below)),
+      ),
       record {
         short = h .short;
         attained = rw front (h .cycle);
+        earns = rw front (l .earns);
         ratio = record { exact = rw front (l .ratio .exact); lowest = l .ratio .lowest };
         p-small = l .p-small;
         q-small = l .q-small;
         none-below = l .none-below;
         potentials = l .potentials;
         rest-potential = l .rest;
-        rest-cycle = copied-rest hand cycle cycle' k fits (copied .ensures);
+        rest-cycle = copied-rest (hand t) cycle cycle' k fits (copied .ensures);
       },
     )
 
@@ -139,17 +122,14 @@ pub beyond-spec : {M : Type 1} → statement M
 beyond-spec =
     tie.close
     (tie.spec
-    slice-aggregate-negative-cycle
-    slice-aggregate-negative-cycle-2
-    negative-cycle-requires
-    enum-told
-    enum-told-2
-    enum-told-3
     settle-requires
+    enum-told
+    enum-known-settled
     arcs-requires
-    returns
-    returns-2
     same-length
     same-length-2
+    returns
     same-length-3
-    returns-3)
+    same-length-4
+    same-length-5
+    returns-2)

@@ -1,5 +1,5 @@
 -- The search at the ratio of the cycle in hand.
-use mathlib.Core.Path.{_≡_, refl, ap, _∙_}
+use mathlib.Core.Path.{_≡_, refl, sym, ap, _∙_}
 use mathlib.Core.List.{List}
 use Prim.Native.Nat.{ℕ, _≤_}
 use borrow.Author.Needs.{needs}
@@ -12,8 +12,9 @@ use mir.ValLaws.{toZ-ofZ, toZ-pos}
 use Rattle.integers.proofs.Parts.{abs-parts, neg-up, neg-dn}
 use Rattle.integers.proofs.Machine.{small, back, carry}
 use Rattle.graph.specs.Answer.{SearchAnswered}
-use Rattle.ratio.proofs.Bounds.{summed}
-use Rattle.ratio.proofs.TurnLaws.{p-small, q-small, never, better, done, again-settled}
+use Rattle.ratio.specs.Turns.{InHand}
+use Rattle.ratio.proofs.Bounds.{hand-arc, summed}
+use Rattle.ratio.proofs.TurnLaws.{p-small, q-small, never, found-in-hand, better, gain, done, again-settled}
 use Rattle.ratio.proofs.RatioAnswerLaws.{coded}
 use Rattle.ratio.proofs.improve.search_below.Statement.{statement}
 use Rattle.ratio.proofs.improve.search_below.Tie as tie
@@ -33,10 +34,10 @@ abbrev hand : tie.After-negative-cycle → List ℕ
 hand c = c .negative-cycle .last .1 .1 .1 .1 .1 .1 .1 .0
 
 p-of : (c : tie.After-fraction-of) → natAbs (c .fraction-of .result .p) ≤ 20480000
-p-of c = p-small (S c .pre .0) (S c .pre .1) (c .fraction-of .ensures)
+p-of c = p-small (S c .pre .0) (S c .pre .1 .0) (S c .pre .1 .1) (c .fraction-of .ensures)
 
 q-of : (c : tie.After-fraction-of) → c .fraction-of .result .q ≤ 20480000
-q-of c = q-small (S c .pre .0) (S c .pre .1) (c .fraction-of .ensures)
+q-of c = q-small (S c .pre .0) (S c .pre .1 .0) (S c .pre .1 .1) (c .fraction-of .ensures)
 
 fits-p : (c : tie.After-fraction-of) → SFits w64 (c .fraction-of .result .p)
 fits-p c = small _ 20480001 (omega (arith, p-of c)) (omega arith)
@@ -58,14 +59,26 @@ found-is c = let s = S (R c) in let f = R c .fraction-of .result in
     (D c) (now (s .args .hand)) (hand c) (c .negative-cycle .result)
     (c .negative-cycle .ensures) (toZ-pos w64 (f .q) (omega (arith, q-of (R c)))) (back (neg-is (R c)) (fits-neg (R c))) refl
 
+-- the cycle that was found is in hand now
+abbrev N : tie.After-found → tie.After-negative-cycle
+N v = v .before .before .before .before .before
+
+in-hand : (v : tie.After-found) → let r = N v in let s = S (R r) in InHand (now (s .args .from)) (now (s .args .to)) (s .args .nodes) (hand r) (v .found .given .0 .0)
+in-hand v =
+    let r = N v in
+    let f = R r .fraction-of in
+    let s = S (R r) in
+    found-in-hand (s .pre .0) (s .pre .1 .0) (s .pre .1 .1) (f .ensures) (now (s .args .potential)) (D r) (hand r) (s .pre .0 .potential-room) (r .negative-cycle .result) (found-is r)
+    (v .found .given .0 .0) (r .negative-cycle .kept .1 .1 .1 .1 .1 .1 .1 .0) (v .found .given .1)
+
 fraction-of-requires : tie.Need-fraction-of-requires
-fraction-of-requires c κs = let s = c .before .before .before .before .before in summed (s .pre .0) (s .pre .1)
+fraction-of-requires c κs = let s = c .before .before .before .before .before in summed (s .pre .0 .graph) (s .pre .1 .0) (s .pre .1 .1)
 
-cast-t17 : tie.Need-cast-t17
-cast-t17 c = small _ 20480001 (omega (arith, q-of (c .before))) (omega arith)
+cast-t18 : tie.Need-cast-t18
+cast-t18 c = small _ 20480001 (omega (arith, q-of (c .before))) (omega arith)
 
-sub-t18 : tie.Need-sub-t18
-sub-t18 c = carry (fits-neg (c .before)) (neg-is (c .before))
+sub-t19 : tie.Need-sub-t19
+sub-t19 c = carry (fits-neg (c .before)) (neg-is (c .before))
 
 negative-cycle-requires : tie.Need-negative-cycle-requires
 negative-cycle-requires c κs = search needs
@@ -76,8 +89,12 @@ enum-told c = search needs
 enum-known-found : tie.Need-enum-known-found
 enum-known-found c = search needs
 
-enum-told-2 : tie.Need-enum-told-2
-enum-told-2 c = search needs
+reward-sum-requires : tie.Need-reward-sum-requires
+reward-sum-requires c κs =
+    let v = c .before .before in
+    let g = S (R (N v)) .pre .0 .graph in
+    let h = in-hand v in
+    (omega (arith, h .short, h .room), (omega (arith, h .short, g .nodes), λ i l. omega (arith, hand-arc g h i l, g .rewards)))
 
 same-length : tie.Need-same-length
 same-length c = search needs
@@ -85,12 +102,26 @@ same-length c = search needs
 same-length-2 : tie.Need-same-length-2
 same-length-2 c = search needs
 
-returns : tie.Need-returns
-returns c =
-    let r = c .before .before .before .before .before in
+returns-3 : tie.Need-returns-3
+returns-3 c =
+    let v = c .before .before .before .before in
+    let r = N v in
     let f = R r .fraction-of in
     let s = S (R r) in
-    never (s .pre .0) (s .pre .1) (f .ensures) (now (s .args .potential)) (D r) (hand r) (s .pre .0 .formed .potential-room) (r .negative-cycle .result) (found-is r) (c .enum-told .given .1)
+    better (s .pre .0) (s .pre .1 .0) (s .pre .1 .1) (f .ensures) (now (s .args .potential)) (D r) (hand r) (s .pre .0 .potential-room) (r .negative-cycle .result) (found-is r)
+    (v .found .given .0 .0) (r .negative-cycle .kept .1 .1 .1 .1 .1 .1 .1 .0) (v .found .given .1) (omega (arith, c .before .reward-sum .ensures, c .if1 .left))
+
+returns : tie.Need-returns
+returns c =
+    let v = c .before .before .before .before in
+    let r = N v in
+    let f = R r .fraction-of in
+    let s = S (R r) in
+    gain (s .pre .0) (s .pre .1 .0) (s .pre .1 .1) (f .ensures) (now (s .args .potential)) (D r) (hand r) (s .pre .0 .potential-room) (r .negative-cycle .result) (found-is r)
+    (v .found .given .0 .0) (v .found .given .1) (sym (c .before .reward-sum .ensures) ∙ c .if1 .taken)
+
+enum-told-2 : tie.Need-enum-told-2
+enum-told-2 c = search needs
 
 same-length-3 : tie.Need-same-length-3
 same-length-3 c = search needs
@@ -100,11 +131,10 @@ same-length-4 c = search needs
 
 returns-2 : tie.Need-returns-2
 returns-2 c =
-    let r = c .before .before .before .before .before .before in
+    let r = c .before .before .before .before .before in
     let f = R r .fraction-of in
     let s = S (R r) in
-    better (s .pre .0) (s .pre .1) (f .ensures) (now (s .args .potential)) (D r) (hand r) (s .pre .0 .formed .potential-room) (r .negative-cycle .result) (found-is r) (c .before .found .given .0 .0)
-    (r .negative-cycle .kept .1 .1 .1 .1 .1 .1 .1 .0) (c .before .found .given .1)
+    never (s .pre .0) (s .pre .1 .0) (s .pre .1 .1) (f .ensures) (now (s .args .potential)) (D r) (hand r) (s .pre .0 .potential-room) (r .negative-cycle .result) (found-is r) (c .enum-told .given .1)
 
 same-length-5 : tie.Need-same-length-5
 same-length-5 c = search needs
@@ -112,31 +142,41 @@ same-length-5 c = search needs
 same-length-6 : tie.Need-same-length-6
 same-length-6 c = search needs
 
-returns-3 : tie.Need-returns-3
-returns-3 c =
+same-length-7 : tie.Need-same-length-7
+same-length-7 c = search needs
+
+same-length-8 : tie.Need-same-length-8
+same-length-8 c = search needs
+
+returns-4 : tie.Need-returns-4
+returns-4 c =
     let r = c .before .before .before .before .before in
     let f = R r .fraction-of in
     let s = S (R r) in
     again-settled (fits-p (R r))
-    (done (s .pre .0) (s .pre .1) (f .ensures) (now (s .args .potential)) (D r) (hand r) (s .pre .0 .formed .potential-room) (r .negative-cycle .result) (found-is r) (c .enum-told2 .given .1))
+    (done (s .pre .0) (s .pre .1 .0) (s .pre .1 .1) (f .ensures) (now (s .args .potential)) (D r) (hand r) (s .pre .0 .potential-room) (r .negative-cycle .result) (found-is r) (c .enum-told2 .given .1))
 
 pub search-below-spec : {M : Type 1} → statement M
 search-below-spec =
     tie.close
     (tie.spec
     fraction-of-requires
-    cast-t17
-    sub-t18
+    cast-t18
+    sub-t19
     negative-cycle-requires
     enum-told
     enum-known-found
-    enum-told-2
+    reward-sum-requires
     same-length
     same-length-2
     returns
+    enum-told-2
     same-length-3
     same-length-4
     returns-2
     same-length-5
     same-length-6
-    returns-3)
+    returns-3
+    same-length-7
+    same-length-8
+    returns-4)
