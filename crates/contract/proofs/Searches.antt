@@ -4,8 +4,7 @@ use mathlib.Core.List.{List}
 use mathlib.Core.Option.{Option}
 use Prim.Native.Nat.{ℕ, _*_, _<_}
 use native.Mathlib.Omega.{arith}
-use lib.IntN.{ℤ, pos, negℤ, _+ℤ_, _*ℤ_, *ℤ-zero, +ℤ-idr}
-use lib.ListN.{length}
+use lib.IntN.{ℤ, pos, negℤ, _+ℤ_, _*ℤ_}
 use lib.Signed.{_≤ℤ_}
 use Rattle.integers.proofs.Parts.{up, dn, ext, mul-parts, neg-up, neg-dn}
 use Rattle.automaton.specs.Priced.{Priced}
@@ -15,7 +14,7 @@ use Rattle.walks.specs.Walk as Graph
 use Rattle.walks.specs.Walk.{at}
 use Rattle.walks.specs.Weight.{sum, LeastWeight}
 use Rattle.walks.specs.Cycles.{SimpleCycle, EarningArcs, NoneEarns, IdleGainArcs}
-use Rattle.walks.proofs.Weights.{weight-sum}
+use Rattle.walks.proofs.Weights.{weight-sum-0}
 use Rattle.contract.specs.Questions.{EarningCycle, IdleGain}
 use Rattle.contract.specs.Explored.{Found, Explored}
 use Rattle.contract.proofs.Checklist.{weightAt}
@@ -38,9 +37,7 @@ neg-times p x = ext (negℤ p *ℤ x) (negℤ (p *ℤ x)) (omega (
 -- the weight of a list of arcs is that of a walk
 pub weighed : (p : ℤ) (q : ℕ) (g : Found) (l : List ℕ) → sum (weightAt p q g) l ≡ weight p q (costOf g l) (rewardOf g l)
 unfolding weight
-weighed p q g l = weight-sum (pos q) (negℤ p) (pos 0) (g .cost) (g .reward) l
-    ∙ ap (λ (z : ℤ). pos q *ℤ costOf g l +ℤ negℤ p *ℤ pos (rewardOf g l) +ℤ z) (*ℤ-zero (pos (length l)))
-    ∙ +ℤ-idr (pos q *ℤ costOf g l +ℤ negℤ p *ℤ pos (rewardOf g l))
+weighed p q g l = weight-sum-0 (pos q) (negℤ p) (g .cost) (g .reward) l
     ∙ ap (λ (z : ℤ). pos q *ℤ costOf g l +ℤ z) (neg-times p (pos (rewardOf g l)))
 
 -- ---- questions 13 and 14

@@ -53,28 +53,33 @@ cross u d U D s t R r q hr less same = lt-of-mul-lt-mul-right q (omega (
   rot U R q,
 ))
 
--- q * C - p * R, by parts
-pub deducted : (C p : ℤ) (R q : ℕ) (z : ℤ) → z ≡ pos q *ℤ C +ℤ negℤ p *ℤ pos R +ℤ pos 0 → up z + (q * dn C + up p * R) ≡ dn z + (q * up C + dn p * R)
-deducted C p R q z e = omega (
+-- q * C + b * R, by parts
+pub combined : (C b : ℤ) (R q : ℕ) (z : ℤ) → z ≡ pos q *ℤ C +ℤ b *ℤ pos R → up z + (q * dn C + dn b * R) ≡ dn z + (q * up C + up b * R)
+combined C b R q z e = omega (
   arith,
   ap up e,
   ap dn e,
-  add-parts (pos q *ℤ C +ℤ negℤ p *ℤ pos R) (pos 0),
-  add-parts (pos q *ℤ C) (negℤ p *ℤ pos R),
+  add-parts (pos q *ℤ C) (b *ℤ pos R),
   up-times q C,
   dn-times q C,
-  right-times (negℤ p) R,
-  ap (λ (x : ℕ). x * R) (neg-up p),
-  ap (λ (x : ℕ). x * R) (neg-dn p),
+  right-times b R,
 )
 
 -- a cycle of negative weight at the ratio p / q of another is cheaper than it
-pub cheaper : (C c p : ℤ) (R r q : ℕ) (z : ℤ) → 0 < r → z ≡ pos q *ℤ C +ℤ negℤ p *ℤ pos R +ℤ pos 0 → z <ℤ pos 0 → pos q *ℤ c ≡ p *ℤ pos r
+pub cheaper : (C c p : ℤ) (R r q : ℕ) (z : ℤ) → 0 < r → z ≡ pos q *ℤ C +ℤ negℤ p *ℤ pos R → z <ℤ pos 0 → pos q *ℤ c ≡ p *ℤ pos r
     → (C *ℤ pos r) <ℤ (c *ℤ pos R)
 cheaper C c p R r q z hr e less same = lt-of (C *ℤ pos r) (c *ℤ pos R) (omega (
   arith,
   cross (up C) (dn C) (up c) (dn c) (up p) (dn p) R r q hr
-      (omega (arith, deducted C p R q z e, lt-parts z (pos 0) less, mul-comm q (dn C), mul-comm q (up C)))
+      (omega (
+        arith,
+        combined C (negℤ p) R q z e,
+        ap (λ (x : ℕ). x * R) (neg-up p),
+        ap (λ (x : ℕ). x * R) (neg-dn p),
+        lt-parts z (pos 0) less,
+        mul-comm q (dn C),
+        mul-comm q (up C),
+      ))
       (omega (arith, up-times q c, dn-times q c, right-times p r, ap up same, ap dn same)),
   right-times C r,
   right-times c R,

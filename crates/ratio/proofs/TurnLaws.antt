@@ -11,6 +11,7 @@ use mir.ValLaws.{toZ-ofZ}
 use Rattle.integers.proofs.Parts.{abs-parts, neg-up, neg-dn}
 use Rattle.walks.specs.Walk.{at, atℤ}
 use Rattle.walks.specs.Weight.{sum, total}
+use Rattle.walks.proofs.Weights.{weight-sum-0}
 use Rattle.graph.specs.Answer as Search
 use Rattle.graph.specs.declared.Answer.{Answer}
 use Rattle.graph.specs.declared.Answer.the-variants.{Malformed, Cycle, Potentials}
@@ -22,7 +23,7 @@ use Rattle.ratio.specs.declared.improve.Settled.{Settled}
 use Rattle.ratio.specs.declared.improve.Settled.the-variants as Settled
 use Rattle.ratio.proofs.Heights.{height, height-falls, cheaper}
 use Rattle.ratio.proofs.Bounds.{hand-cost, hand-reward}
-use Rattle.ratio.proofs.Searches.{simple-of, weightAt, weighs, idle-gain}
+use Rattle.ratio.proofs.Searches.{simple-of, weightBy, idle-gain}
 
 -- the cycle that a search found is in hand
 pub handed : {F T : List ℕ} (weight : ℕ → ℤ) {n : ℕ} {potential potential' : List ℤ} {hand hand' : List ℕ} {j : ℕ} → n ≤ length hand'
@@ -36,7 +37,7 @@ module _ {F T : List ℕ} {cost : List ℤ} {reward : List ℕ} {n a b : ℕ} (r
 
   module _ {p : ℤ} {q : ℕ} (f : Reduced (sum (atℤ cost) c) (total (at reward) c) p q) where
     abbrev W : ℕ → ℤ
-    W = weightAt p q cost reward
+    W = weightBy q (negℤ p) cost reward
 
     pub p-small : natAbs p ≤ 20480000
     p-small = omega (arith, f .p-small, hand-cost (r .graph) h)
@@ -63,7 +64,7 @@ module _ {F T : List ℕ} {cost : List ℤ} {reward : List ℕ} {n a b : ℕ} (r
       in-hand = handed W (omega (arith, h .room)) g;
       earns = more;
       cheaper = cheaper (sum (atℤ cost) (take j hand')) (sum (atℤ cost) c) p (total (at reward) (take j hand')) (total (at reward) c) q
-          (sum W (take j hand')) earned (weighs p q cost reward (take j hand')) (g .negative .negative) (f .exact);
+          (sum W (take j hand')) earned (weight-sum-0 (pos q) (negℤ p) cost reward (take j hand')) (g .negative .negative) (f .exact);
       kept = g .kept;
     }
 
@@ -72,7 +73,7 @@ module _ {F T : List ℕ} {cost : List ℤ} {reward : List ℕ} {n a b : ℕ} (r
         → Search.CycleFound F T W n j potential potential' hand hand' → GainFound F T cost reward potential potential'
     gained {hand' = hand'} {j = j} none g = record {
       earning = record { arcs = c; cycle = h .cycle; earns = earned };
-      gain = idle-gain p q cost reward F T (take j hand') (g .negative) none;
+      gain = idle-gain q (negℤ p) cost reward F T (take j hand') (g .negative) none;
       kept = g .kept;
     }
 

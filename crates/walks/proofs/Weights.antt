@@ -6,7 +6,7 @@ use Prim.Native.Nat.{ℕ, _+_, _*_, _≤_, _<_}
 use native.Mathlib.Omega.{arith}
 use native.Mathlib.Nat.{mul-le-mul}
 use lib.ListN.{length}
-use lib.IntN.{ℤ, pos, natAbs, _+ℤ_, _*ℤ_, *ℤ-zero, zero-*ℤ, +ℤ-assoc}
+use lib.IntN.{ℤ, pos, natAbs, _+ℤ_, _*ℤ_, *ℤ-zero, zero-*ℤ, +ℤ-assoc, +ℤ-idr}
 use lib.Signed.{_≤ℤ_}
 use Rattle.integers.proofs.Parts.{ext, le-of, le-parts, add-parts}
 use Rattle.integers.proofs.Products.{abs-add, abs-mul, mul-sum, times-suc}
@@ -54,6 +54,12 @@ module _ (a b c : ℤ) (cost : List ℤ) (reward : List ℕ) where
       let i : sum (weightOf a b c cost reward) l ≡ byParts l = weight-sum l in
       rw (i, mul-sum a (atℤ cost e) (sum (atℤ cost) l), mul-sum b (pos (at reward e)) (pos (total (at reward) l)), times-suc (length l) c)
       (shuffle (a *ℤ atℤ cost e) (b *ℤ pos (at reward e)) c (a *ℤ sum (atℤ cost) l) (b *ℤ pos (total (at reward) l)) (pos (length l) *ℤ c))
+
+-- the same, where an arc itself weighs nothing
+pub weight-sum-0 : (a b : ℤ) (cost : List ℤ) (reward l : List ℕ)
+    → sum (weightOf a b (pos 0) cost reward) l ≡ a *ℤ sum (atℤ cost) l +ℤ b *ℤ pos (total (at reward) l)
+weight-sum-0 a b cost reward l = let z = a *ℤ sum (atℤ cost) l +ℤ b *ℤ pos (total (at reward) l) in
+    weight-sum a b (pos 0) cost reward l ∙ ap (λ (y : ℤ). z +ℤ y) (*ℤ-zero (pos (length l))) ∙ +ℤ-idr z
 
 -- ---- how large a weight is
 mul-small : (x y : ℤ) (m n : ℕ) → natAbs x ≤ m → natAbs y ≤ n → natAbs (x *ℤ y) ≤ m * n

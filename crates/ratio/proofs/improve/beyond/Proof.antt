@@ -5,7 +5,7 @@ use Prim.Native.Nat.{ℕ, _≤_}
 use borrow.Author.Needs.{needs}
 use native.Mathlib.Omega.{arith}
 use denote.Ref.{now}
-use lib.IntN.{ℤ}
+use lib.IntN.{ℤ, negℤ}
 use lib.ListN.{length}
 use Rattle.integers.proofs.Machine.{small}
 use Rattle.ratio.specs.Answer.{no-to-14, yes-to-both}
@@ -101,7 +101,7 @@ returns-2 c =
       (
         S t .pre .0,
         yes-to-both refl (record { arcs = _; cycle = h .cycle; earns = l .earns })
-            (no-idle-gain (g .0) (g .1 .0) (now (a .cost)) (now (a .reward)) (now (a .from)) (now (a .to))
+            (no-idle-gain (g .1 .0) (negℤ (g .0)) (now (a .cost)) (now (a .reward)) (now (a .from)) (now (a .to))
             (l .ratio .lowest .positive) (least v .none-below)),
       ),
       record {
