@@ -22,6 +22,10 @@ static const uint8_t no_edge[8] = {1, 1, 1, 0, 5, 1, 0, 5};
 static const uint8_t idle_costs[24] = {1, 1, 1, 2, 5, 1, 0, 5, 15, 0, 0, 0, 5, 0, 2, 0, 1, 2, 1, 0, 0, 0, 1, 0};
 static const uint8_t idle_gains[24] = {1, 1, 1, 2, 5, 1, 0, 5, 15, 0, 0, 0, 5, 0, 2, 0, 1, 2, 1, 0, 0, 0, 255, 255};
 
+/* Bench with its edge entered twice, and with a second edge that differs in its reward. */
+static const uint8_t edge_twice[28] = {1, 1, 1, 2, 5, 1, 0, 5, 15, 0, 0, 0, 5, 0, 2, 0, 1, 2, 15, 0, 0, 0, 5, 0, 2, 0, 1, 2};
+static const uint8_t two_edges[28] = {1, 1, 1, 2, 5, 1, 0, 5, 15, 0, 0, 0, 5, 0, 2, 0, 1, 2, 15, 0, 0, 0, 5, 0, 3, 0, 1, 2};
+
 static uint32_t nodes[LONGER];
 static int64_t potentials[LONGER];
 static uint16_t steps[LONGER];
@@ -51,6 +55,7 @@ static int all_zero(void) { return p == 0 && q == 0 && n == 0 && s == 0 && m == 
 
 static void accepted(void) {
     EXPECT(plan(idle_costs, sizeof idle_costs, LONGER) == 0 && p == 3 && q == 1 && n == 7);
+    EXPECT(plan(two_edges, sizeof two_edges, LONGER) == 0 && p == 2 && q == 1 && n == 7);
     EXPECT(plan(bench, sizeof bench, LONGER) == 0);
     EXPECT(p == 3 && q == 1 && n == 7 && s >= 0 && m >= 1 && s + m <= n);
     EXPECT(hold(0, (size_t)n, (size_t)(s + m)));
@@ -88,8 +93,20 @@ static void refused(void) {
     EXPECT(number == 0 && cost == 0 && reward == 0);
 }
 
+/* No buffer is written to, and every number is. */
+static void refused_twice(void) {
+    uint32_t number = MARK;
+    int64_t cost = MARK, reward = MARK;
+    EXPECT(planner_check(edge_twice, sizeof edge_twice) == 17);
+    EXPECT(planner_step(edge_twice, sizeof edge_twice, 0, PLANNER_MOVE, &number, &cost, &reward) == 17);
+    EXPECT(number == 0 && cost == 0 && reward == 0);
+    EXPECT(plan(edge_twice, sizeof edge_twice, LONGER) == 17 && all_zero() && hold(MARK, 0, 0));
+    EXPECT(plan(edge_twice, sizeof edge_twice, PLANNER_LEAST_ENTRIES - 1) == 1 && all_zero() && hold(MARK, 0, 0));
+}
+
 int main(void) {
     refused();
+    refused_twice();
     accepted();
     walked();
     printf("ratio %ld %ld\nnodes %ld\n", (long)p, (long)q, (long)n);

@@ -40,6 +40,8 @@
  *        8     Is each field in range?                                          x      x    x
  *        9     Are source and target of each edge locations?                    x      x    x
  *       10     Has every byte been used?                                        x      x    x
+ *       17     Is each edge entered once, no two records being equal in         x      x    x
+ *              every byte?
  *       11     Do the bounds of location 0 admit all clocks at 0?               x      x    x
  *       12     Are at most 2,048 nodes reachable?                                           x
  *       13     Is a cycle with reward above 0 reachable?                                    x
@@ -47,11 +49,11 @@
  *       15     Is the number that of a node of this sheet?                             x
  *       16     Is the code allowed there?                                              x
  *
- *   Questions 5 to 9 are asked of each record in turn.
+ *   Questions 5 to 9 are asked of each record in turn; 17 is asked after 10 and before 11.
  *
  * STACK AND THREADS
  *   The functions allocate nothing; their room is the caller's stack. As bench/plan/run measured it,
- *   planner_plan took 874 KB, planner_step 3 KB and planner_check 1 KB at most; it fails where one
+ *   planner_plan took 874 KB, planner_step 4 KB and planner_check 2 KB at most; it fails where one
  *   takes 2 MB. So a thread that plans does with a stack of 2 MB.
  *   They have no state, global or kept from call to call: threads may call them at the same time,
  *   each with memory of its own to write to. They do no input or output and set no errno.
@@ -74,14 +76,14 @@ enum {
 };
 
 /*
- * Checks a sheet: questions 2 to 11.
+ * Checks a sheet: questions 2 to 11 and 17.
  *
  * sheet, sheet_length  the bytes; only read
  */
 uint8_t planner_check(const uint8_t *sheet, size_t sheet_length);
 
 /*
- * Takes one step from a node of a sheet: questions 2 to 11, then 15 and 16.
+ * Takes one step from a node of a sheet: questions 2 to 11 and 17, then 15 and 16.
  *
  * sheet, sheet_length  the bytes; only read
  * node                 the number of the node to step from; the start is node 0
@@ -93,7 +95,7 @@ uint8_t planner_step(const uint8_t *sheet, size_t sheet_length, uint32_t node, u
                      uint32_t *number, int64_t *cost, int64_t *reward);
 
 /*
- * Plans a sheet: questions 1 to 14.
+ * Plans a sheet: questions 1 to 14 and 17.
  *
  * sheet, sheet_length              the bytes; only read
  * nodes, nodes_length              a buffer: gets the numbers of the reachable nodes, rising
@@ -108,9 +110,9 @@ uint8_t planner_step(const uint8_t *sheet, size_t sheet_length, uint32_t node, u
  * it from the start, where a step weighs q times its cost minus p times its reward.
  *
  * What stands in the buffers afterwards:
- *     accepted (0)   n entries of nodes and potentials, s + m of steps, and 0 from there to the end
- *     refused, 1-11  what stood there before: nothing is written to a buffer
- *     refused, 12-14 0 in every entry of all three
+ *     accepted (0)      n entries of nodes and potentials, s + m of steps, and 0 from there to the end
+ *     refused, 1-11, 17 what stood there before: nothing is written to a buffer
+ *     refused, 12-14    0 in every entry of all three
  */
 uint8_t planner_plan(const uint8_t *sheet, size_t sheet_length, uint32_t *nodes,
                      size_t nodes_length, int64_t *potentials, size_t potentials_length,

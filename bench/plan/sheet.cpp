@@ -1,5 +1,7 @@
 #include "sheet.hpp"
 
+#include <cstring>
+
 namespace {
 
 struct Reader {
@@ -78,6 +80,18 @@ int read_edge(Reader &r, int clocks, int locations, Edge &edge) {
     return edge.source < locations && edge.target < locations ? 0 : 9;
 }
 
+struct Record {
+    const uint8_t *bytes;
+    size_t length;
+};
+
+bool some_equal(const std::vector<Record> &records) {
+    for (size_t i = 1; i < records.size(); i++)
+        for (size_t j = 0; j < i; j++)
+            if (records[i].length == records[j].length && std::memcmp(records[i].bytes, records[j].bytes, records[i].length) == 0) return true;
+    return false;
+}
+
 } // namespace
 
 int read_sheet(const uint8_t *bytes, size_t length, Sheet &sheet) {
@@ -91,9 +105,15 @@ int read_sheet(const uint8_t *bytes, size_t length, Sheet &sheet) {
     sheet.edges.assign(size_t(edges), {});
     for (Location &location : sheet.locations)
         if (int refusal = read_location(r, clocks, location)) return refusal;
-    for (Edge &edge : sheet.edges)
+    std::vector<Record> records;
+    records.reserve(sheet.edges.size());
+    for (Edge &edge : sheet.edges) {
+        size_t began = r.at;
         if (int refusal = read_edge(r, clocks, locations, edge)) return refusal;
+        records.push_back({bytes + began, r.at - began});
+    }
     if (r.at != length) return 10;
+    if (some_equal(records)) return 17;
     for (int j = 0; j < clocks; j++)
         if (sheet.locations[0].upper[j] == 0) return 11;
     return 0;

@@ -22,5 +22,5 @@ struct Sheet {
     std::vector<Edge> edges;
 };
 
-// 0, or the number of the first of questions 2 to 11 that is answered no; the sheet is whole only where 0.
+// 0, or the number of the first of questions 2 to 10, 17 and 11 that is answered no; the sheet is whole only where 0.
 int read_sheet(const uint8_t *bytes, size_t length, Sheet &sheet);

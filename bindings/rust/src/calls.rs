@@ -30,12 +30,12 @@ pub struct PlanNumbers {
     pub m: i64,
 }
 
-/// Questions 2 to 11.
+/// Questions 2 to 11 and 17.
 pub fn check(sheet: &[u8]) -> u8 {
     crate::exported::check(sheet)
 }
 
-/// Questions 2 to 11, then 15 and 16.
+/// Questions 2 to 11 and 17, then 15 and 16.
 ///
 /// ```
 /// use planner::calls::{step, StepNumbers};
@@ -48,11 +48,11 @@ pub fn step(sheet: &[u8], node: u32, code: u16, numbers: &mut StepNumbers) -> u8
     crate::exported::step(sheet, node, code, numbers)
 }
 
-/// Questions 1 to 14.
+/// Questions 1 to 14 and 17.
 ///
 /// Where it answers 0, `nodes` and `potentials` hold n entries and `steps` holds s and m, the stem
-/// and then the cycle; the entries behind are 0, to the end of each buffer. Refusals 1 to 11 write
-/// to no buffer, 12 to 14 set every entry of all three to 0.
+/// and then the cycle; the entries behind are 0, to the end of each buffer. Refusals 1 to 11 and 17
+/// write to no buffer, 12 to 14 set every entry of all three to 0.
 ///
 /// ```
 /// use planner::calls::{plan, PlanNumbers};

@@ -51,7 +51,7 @@ pub struct Step {
     pub reward: i64,
 }
 
-/// Checks a sheet: questions 2 to 11.
+/// Checks a sheet: questions 2 to 11 and 17.
 ///
 /// ```
 /// assert_eq!(planner::check(&[]).unwrap_err().number(), 2);
@@ -60,7 +60,8 @@ pub fn check(sheet: &[u8]) -> Result<(), Refusal> {
     Refusal::of(calls::check(sheet))
 }
 
-/// Takes a step from a node of a sheet, the start being node 0: questions 2 to 11, then 15 and 16.
+/// Takes a step from a node of a sheet, the start being node 0: questions 2 to 11 and 17, then 15
+/// and 16.
 ///
 /// ```
 /// let bench = [1, 1, 1, 1, 5, 1, 0, 5, 15, 0, 0, 0, 5, 0, 2, 0, 1, 2];

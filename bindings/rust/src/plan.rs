@@ -40,7 +40,7 @@ impl Planner {
         }
     }
 
-    /// Plans a sheet: questions 2 to 14, the buffers being long enough.
+    /// Plans a sheet: questions 2 to 14 and 17, the buffers being long enough.
     ///
     /// ```
     /// let mut planner = planner::Planner::new();

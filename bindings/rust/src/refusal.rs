@@ -16,7 +16,7 @@ impl Refusal {
         }
     }
 
-    /// The question's number, 1 to 16.
+    /// The question's number, 1 to 17.
     pub fn number(self) -> u8 {
         self.0.get()
     }
@@ -40,6 +40,7 @@ impl Refusal {
             14 => "Does every reachable cycle without reward cost 0 or more?",
             15 => "Is the number that of a node of this sheet?",
             16 => "Is the code allowed there?",
+            17 => "Is each edge entered once?",
             _ => "No question has this number.",
         }
     }

@@ -12,6 +12,10 @@ const NO_EDGE: [u8; 8] = [1, 1, 1, 0, 5, 1, 0, 5];
 /// Bench without its reward: a cycle, and none that earns.
 const NO_REWARD: [u8; 16] = [1, 1, 1, 1, 5, 1, 0, 5, 13, 0, 0, 0, 5, 0, 1, 2];
 
+/// Bench with its edge entered twice.
+const EDGE_TWICE: [u8; 28] =
+    [1, 1, 1, 2, 5, 1, 0, 5, 15, 0, 0, 0, 5, 0, 2, 0, 1, 2, 15, 0, 0, 0, 5, 0, 2, 0, 1, 2];
+
 #[test]
 fn bench_is_planned() {
     let mut planner = Planner::new();
@@ -68,6 +72,18 @@ fn a_cycle_without_reward_may_cost_and_not_make_money() {
 }
 
 #[test]
+fn an_edge_may_not_be_entered_twice() {
+    let mut planner = Planner::new();
+    let refusal = planner.plan(&EDGE_TWICE).expect_err("an edge twice");
+    assert_eq!(refusal.to_string(), "refused 17: Is each edge entered once?");
+    assert_eq!(check(&EDGE_TWICE), Err(refusal));
+    assert_eq!(step(&EDGE_TWICE, 0, MOVE), Err(refusal));
+    let mut other_reward = EDGE_TWICE;
+    other_reward[24] = 3;
+    assert_eq!(planner.plan(&other_reward).map(|plan| (plan.p, plan.q)), Ok((2, 1)));
+}
+
+#[test]
 fn checks_and_steps() {
     assert_eq!(check(&BENCH), Ok(()));
     assert_eq!(check(&BENCH[..17]).expect_err("a byte less").number(), 5);
@@ -87,18 +103,20 @@ fn a_refusal_says_its_question() {
 
 #[test]
 fn every_number_is_written_by_a_refused_call() {
-    let mut numbers = StepNumbers { number: 7, cost: 7, reward: 7 };
-    assert_eq!(calls::step(&BENCH, 0, 34, &mut numbers), 16);
-    assert_eq!(numbers, StepNumbers::default());
-    for (sheet, refusal) in [(&BENCH[..17], 5), (&NO_EDGE[..], 13)] {
+    for (sheet, refusal) in [(&BENCH[..], 16), (&EDGE_TWICE[..], 17)] {
+        let mut numbers = StepNumbers { number: 7, cost: 7, reward: 7 };
+        assert_eq!(calls::step(sheet, 0, 34, &mut numbers), refusal);
+        assert_eq!(numbers, StepNumbers::default());
+    }
+    // The entry that stands in the buffers afterwards: 7 where they are not written to.
+    for (sheet, refusal, entry) in [(&BENCH[..17], 5, 7), (&EDGE_TWICE, 17, 7), (&NO_EDGE, 13, 0)] {
         let mut numbers = PlanNumbers { p: 7, q: 7, n: 7, s: 7, m: 7 };
         let (mut nodes, mut potentials) = ([7; LEAST_ENTRIES], [7; LEAST_ENTRIES + 1]);
         let mut steps = [7; LEAST_ENTRIES];
         let answer = calls::plan(sheet, &mut nodes, &mut potentials, &mut steps, &mut numbers);
         assert_eq!((answer, numbers), (refusal, PlanNumbers::default()));
-        let entry = if refusal < 12 { 7 } else { 0 };
-        assert_eq!(nodes, [entry as u32; LEAST_ENTRIES]);
+        assert_eq!(nodes, [u32::from(entry); LEAST_ENTRIES]);
         assert_eq!(potentials, [i64::from(entry); LEAST_ENTRIES + 1]);
-        assert_eq!(steps, [entry as u16; LEAST_ENTRIES]);
+        assert_eq!(steps, [entry; LEAST_ENTRIES]);
     }
 }

@@ -18,7 +18,7 @@ use Rattle.sheet.specs.Maps.{placeOf}
 use Rattle.sheet.specs.Fields.{fieldOf, permittedField, costInRange, inRange}
 use Rattle.sheet.specs.Records.{fieldPlace, valueAt, fieldAt, recordLength, recordAt}
 use Rattle.sheet.specs.Questions.{each, firstOf, bitGood, mapCode, fieldGood, fieldsCode, boundsCode, endsCode, locationCode, edgeCode}
-use Rattle.sheet.specs.Questions.{startCode, recordsCode, checkOf}
+use Rattle.sheet.specs.Questions.{sameRecord, distinctCode, startCode, restCode, recordsCode, checkOf}
 use Rattle.nodes.specs.Numbers.{clocksFrom, number, listFrom, nodeOf, stepBy}
 use Rattle.nodes.specs.Meaning.{meaning}
 use Rattle.contract.specs.Certificate.{Certificate, allTrue, indexOf, rises, isLowest, eachStep, holdsAll, keeps, isLasso, passed, isPassed}
@@ -94,6 +94,10 @@ certificates = climbing 7 2 1 (around 0)
     ∷ climbing 7 2 1 (around 0)
     ∷ showing 7 2 0 (around 0) (around 1)
     ∷ idling 7 2
+    ∷ nothing
+    ∷ nothing
+    ∷ nothing
+    ∷ nothing
     ∷ []
 
 -- each row has its certificate
@@ -106,7 +110,7 @@ computed : allCertified changes certificates ≡ true
 unfolding allCertified certificates ladder heights upward changes certifies
     showsAccepted showsNoneEarns showsIdleGain showsRefused isPassed passed isLasso keeps holdsAll eachStep isLowest rises indexOf allTrue
     meaning stepBy nodeOf listFrom number clocksFrom
-    checkOf recordsCode startCode edgeCode locationCode endsCode boundsCode fieldsCode fieldGood mapCode bitGood firstOf each
+    checkOf recordsCode restCode startCode distinctCode sameRecord edgeCode locationCode endsCode boundsCode fieldsCode fieldGood mapCode bitGood firstOf each
     recordAt recordLength fieldAt valueAt fieldPlace inRange costInRange permittedField fieldOf placeOf signedOf
     weight step moveStep unitStep edgeStep startNode chain inGuards inBounds largest mask closeUp rank every zipWith
 computed = refl

@@ -1,5 +1,5 @@
 -- The checklist: what the planner's code has in hand where it accepts. Of it `Exits.accepted` makes the whole contract, demand 3 included.
--- The other ways out have laws in Exits too: short-buffer (1), faulty-sheet (2 to 11), too-many-nodes (12), no-earning-cycle (13) and
+-- The other ways out have laws in Exits too: short-buffer (1), faulty-sheet (the check), too-many-nodes (12), no-earning-cycle (13) and
 -- idle-cycle-gains (14).
 use mathlib.Core.Path.{_≡_}
 use mathlib.Core.List.{List, _++_}
@@ -21,7 +21,7 @@ weightAt p q g = weightOf (pos q) (negℤ p) (pos 0) (g .cost) (g .reward)
 
 -- g is the explored graph, p/q the ratio, D the potentials by discovery that the last search left, stem and cycle the lasso as arcs of g
 pub record InHand (bytes : List ℕ) (before after : Buffers) (g : Found) (p : ℤ) (q : ℕ) (D : List ℤ) (order stem cycle : List ℕ) : Type 0 where
-  -- questions 1 to 11 are answered yes
+  -- question 1 and those of the check are answered yes
   pub long : LongEnough before
   pub checked : checkOf bytes ≡ 0
   -- so is question 12, since exploring ended. Exploring by the decoded sheet: `DecodedSheets.explored-read`. Where the

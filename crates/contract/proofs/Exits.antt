@@ -15,11 +15,10 @@ use Rattle.sheet.specs.Questions.{checkOf}
 use Rattle.nodes.specs.Meaning.{meaning, layoutOf}
 use Rattle.nodes.proofs.NumberLaws.{no-loop-below-numbers}
 use Rattle.nodes.proofs.CheckedLaws.{sound, room}
-use Rattle.nodes.proofs.CheckNumberLaws.{check-low}
 use Rattle.walks.specs.Cycles.{EarningArcs, NoneEarns, IdleGainArcs}
 use Rattle.contract.specs.Questions.{TooMany, too-many, none-earns, idle-gain, all-yes}
 use Rattle.contract.specs.Accepted.{Accepted}
-use Rattle.contract.specs.Plan.{refusedPlan, Buffers, zeros, LongEnough, SameLengths, stepOn, startOf, Judged, too-short, faulty, explored, Planned}
+use Rattle.contract.specs.Plan.{refusedPlan, Buffers, zeros, LongEnough, SameLengths, Passed, stepOn, startOf, Judged, too-short, faulty, explored, Planned}
 use Rattle.contract.specs.Explored.{Found, Explored, Overfull}
 use Rattle.contract.proofs.Checklist.{InHand}
 use Rattle.contract.proofs.Counts as Counts
@@ -39,25 +38,25 @@ zero-lengths b = record {
   steps = length-replicate (length (b .steps)) 0;
 }
 
--- a refusal from 1 to 11: nothing is written
-left-alone : (bytes : List ℕ) (b : Buffers) (r : ℕ) → 0 < r → r ≤ 11 → Judged bytes b r → Planned bytes b b (refusedPlan r)
-left-alone bytes b r some low j = record {
+-- a short buffer, or a sheet that the check refuses: nothing is written
+left-alone : (bytes : List ℕ) (b : Buffers) (r : ℕ) → 0 < r → ¬ Passed bytes b → Judged bytes b r → Planned bytes b b (refusedPlan r)
+left-alone bytes b r some failed j = record {
   judged = j;
   numbers = λ h. refl;
-  kept = λ h k. refl;
-  cleared = λ h. absurd (omega arith);
+  kept = λ h. refl;
+  cleared = λ h k. absurd (failed h);
   lengths = same-lengths b;
   accepted = λ e. absurd (omega arith);
   no-loop-below = λ e. absurd (omega arith);
 }
 
--- a refusal from 12 to 14: every entry is 0
-set-to-zero : (bytes : List ℕ) (b : Buffers) (r : ℕ) → 12 ≤ r → Judged bytes b r → Planned bytes b (zeros b) (refusedPlan r)
-set-to-zero bytes b r high j = record {
+-- an explored sheet that is refused: every entry is 0
+set-to-zero : (bytes : List ℕ) (b : Buffers) (r : ℕ) → 0 < r → Passed bytes b → Judged bytes b r → Planned bytes b (zeros b) (refusedPlan r)
+set-to-zero bytes b r some passed j = record {
   judged = j;
   numbers = λ h. refl;
-  kept = λ h k. absurd (omega arith);
-  cleared = λ h. refl;
+  kept = λ h. absurd (h passed);
+  cleared = λ h k. refl;
   lengths = zero-lengths b;
   accepted = λ e. absurd (omega arith);
   no-loop-below = λ e. absurd (omega arith);
@@ -66,17 +65,17 @@ set-to-zero bytes b r high j = record {
 module _ (bytes : List ℕ) (b : Buffers) where
   -- question 1
   pub short-buffer : ¬ LongEnough b → Planned bytes b b (refusedPlan 1)
-  short-buffer h = left-alone bytes b 1 (omega arith) (omega arith) (too-short refl h)
+  short-buffer h = left-alone bytes b 1 (omega arith) (λ p. h (p .0)) (too-short refl h)
 
   module _ (long : LongEnough b) where
-    -- questions 2 to 11
+    -- the check
     pub faulty-sheet : checkOf bytes ≢ 0 → Planned bytes b b (refusedPlan (checkOf bytes))
-    faulty-sheet h = left-alone bytes b (checkOf bytes) (omega arith) (check-low bytes) (faulty refl long h)
+    faulty-sheet h = left-alone bytes b (checkOf bytes) (omega arith) (λ p. h (p .1)) (faulty refl long h)
 
     module _ (checked : checkOf bytes ≡ 0) where
       -- question 12: exploring found more than there is room for
       pub too-many-nodes : (node : List ℕ) → Overfull (stepOn bytes) (startOf bytes) node → Planned bytes b (zeros b) (refusedPlan 12)
-      too-many-nodes node o = set-to-zero bytes b 12 (omega arith)
+      too-many-nodes node o = set-to-zero bytes b 12 (omega arith) (long, checked)
           (explored long checked (too-many refl (Counts.too-many (stepOn bytes) (startOf bytes) node o)))
 
       module _ (g : Found) (x : Explored (stepOn bytes) (startOf bytes) g) where
@@ -85,13 +84,13 @@ module _ (bytes : List ℕ) (b : Buffers) where
 
         -- question 13
         pub no-earning-cycle : NoneEarns (g .from) (g .to) (g .m) (g .reward) → Planned bytes b (zeros b) (refusedPlan 13)
-        no-earning-cycle none = set-to-zero bytes b 13 (omega arith)
+        no-earning-cycle none = set-to-zero bytes b 13 (omega arith) (long, checked)
             (explored long checked (none-earns refl few (Searches.none-earns x none)))
 
         -- question 14
         pub idle-cycle-gains : EarningArcs (g .from) (g .to) (g .m) (g .reward) → IdleGainArcs (g .from) (g .to) (g .m) (g .cost) (g .reward)
             → Planned bytes b (zeros b) (refusedPlan 14)
-        idle-cycle-gains e o = set-to-zero bytes b 14 (omega arith)
+        idle-cycle-gains e o = set-to-zero bytes b 14 (omega arith) (long, checked)
             (explored long checked (idle-gain refl few (Searches.earning x e) (Searches.idle-gain x o)))
 
 -- accepted
@@ -134,8 +133,8 @@ module _ (bytes : List ℕ) (before after : Buffers) (g : Found) (p : ℤ) (q : 
         (record { cost = Arcs.costOf g cycle; reward = Arcs.rewardOf g cycle; cycle = reachable-cycle; earns = h .earns })
         (no-idle-gain step start p q (h .lowest .positive) (Accepting.ϕ g D) feasible));
     numbers = λ k. absurd (omega arith);
-    kept = λ k l. absurd (omega arith);
-    cleared = λ k. absurd (omega arith);
+    kept = λ k. absurd (k (h .long, h .checked));
+    cleared = λ k l. absurd (omega arith);
     lengths = h .lengths;
     accepted = λ e. plan-accepted;
     no-loop-below = λ e. no-loop-below-numbers (layoutOf bytes) (meaning bytes) (room bytes (h .checked)) (sound bytes (h .checked)) p q

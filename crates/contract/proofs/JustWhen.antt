@@ -14,8 +14,8 @@ use Rattle.automaton.specs.Priced.{Priced}
 use Rattle.sheet.specs.Questions.{checkOf, checkNumbers}
 use Rattle.nodes.proofs.CheckNumberLaws.{check-number, passes, absent}
 use Rattle.contract.specs.Questions.{TooMany, EarningCycle, IdleGain, Verdict, too-many, none-earns, idle-gain, all-yes}
-use Rattle.contract.specs.Plan.{Buffers, LongEnough, SameLengths, stepOn, startOf, Judged, too-short, faulty, explored}
-use Rattle.contract.specs.Conditions.{planNumbers, Passed, OnItsCondition}
+use Rattle.contract.specs.Plan.{Buffers, LongEnough, SameLengths, Passed, stepOn, startOf, Judged, too-short, faulty, explored}
+use Rattle.contract.specs.Conditions.{planNumbers, OnItsCondition}
 
 -- ---- the verdict
 module _ (step : ℕ → ℕ → Option (Priced ℕ)) (start r : ℕ) where
@@ -69,7 +69,7 @@ module _ (step : ℕ → ℕ → Option (Priced ℕ)) (start r : ℕ) where
   of-0 q (all-yes e h k l) = (h, k, l)
 
   -- it is one of these four numbers
-  verdict-number : (t : ℕ → Bool) → t 12 ≡ true → t 13 ≡ true → t 14 ≡ true → t 0 ≡ true → Verdict step start r → t r ≡ true
+  pub verdict-number : (t : ℕ → Bool) → t 12 ≡ true → t 13 ≡ true → t 14 ≡ true → t 0 ≡ true → Verdict step start r → t r ≡ true
   verdict-number t a b c d (too-many e h) = ap t e ∙ a
   verdict-number t a b c d (none-earns e h k) = ap t e ∙ b
   verdict-number t a b c d (idle-gain e h k l) = ap t e ∙ c
@@ -141,7 +141,7 @@ module _ (bytes : List ℕ) (b : Buffers) (r : ℕ) where
     checked-told h (faulty e l c) = e ∙ h .1
     checked-told h (explored l c v) = absurd (some (sym (h .1) ∙ c))
 
-  -- past questions 1 to 11, by a number that is none of theirs, or by the answers
+  -- past question 1 and the check, by a number that is none of theirs, or by the answers
   past : (n : ℕ) → occurs n checkNumbers ≡ false → n ≢ 1 → r ≡ n → Judged bytes b r → Passed bytes b × Verdict (stepOn bytes) (startOf bytes) r
   past n f u q (too-short e h) = absurd (u (sym q ∙ e))
   past n f u q (faulty e l c) = absurd (absent (checkOf bytes) n f (sym e ∙ q) (check-number bytes))

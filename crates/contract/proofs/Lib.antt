@@ -10,6 +10,7 @@ pub mod Exits
 pub mod DecodedSheets
 pub mod Graphs
 pub mod JustWhen
+pub mod Causes
 pub mod Rising
 pub mod Unique
 pub mod Tests

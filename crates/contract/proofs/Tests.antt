@@ -22,7 +22,7 @@ use Rattle.automaton.proofs.Tests.{&&-left, &&-right, &&-intro, clash}
 use Rattle.automaton.proofs.Lists.{occurs-cases}
 use Rattle.automaton.proofs.Walks.{reach-start, reach-step, reach-holds}
 use Rattle.sheet.specs.Questions.{each}
-use Rattle.nodes.proofs.QuestionLaws.{each-at}
+use Rattle.sheet.proofs.QuestionLaws.{each-at}
 use Rattle.walks.specs.Walk.{at, atℤ}
 use Rattle.contract.specs.Questions.{TooMany}
 use Rattle.contract.specs.Accepted.{Listed, NodeList}

@@ -4,7 +4,7 @@ use mathlib.Core.Path.{_≡_, refl, sym, ap, _∙_}
 use mathlib.Core.List.{List}
 use mathlib.Core.Option.{Option}
 use Prim.Native.Nat.{ℕ, _≤_, _<_}
-use native.Mathlib.Decide.{decLt, decLe}
+use native.Mathlib.Decide.{decLt}
 use native.Mathlib.Omega.{arith}
 use lib.IntN.{ℤ, pos}
 use lib.ListN.{length, getD}
@@ -15,7 +15,7 @@ use Rattle.automaton.proofs.Potentials.{least-unique}
 use Rattle.automaton.proofs.Ratios.{ratio-unique}
 use Rattle.walks.specs.Walk.{at, atℤ}
 use Rattle.contract.specs.Accepted.{Accepted}
-use Rattle.contract.specs.Plan.{Answer, refusedPlan, Buffers, SameLengths, Planned}
+use Rattle.contract.specs.Plan.{Answer, refusedPlan, Buffers, SameLengths, Passed, Judged, too-short, faulty, explored, Planned}
 use Rattle.contract.specs.Answers.{Agree}
 use Rattle.contract.proofs.JustWhen.{refusal-unique}
 use Rattle.contract.proofs.Rising.{same-count, same-entry}
@@ -75,12 +75,17 @@ module _ {bytes : List ℕ} {before after after' : Buffers} {a a' : Answer}
     | no u ↦ rest i (omega arith) w ∙ sym (rest' i (omega arith) (omega arith))
   ])
 
-  -- refused, all three are the same
+  -- refused, all three are the same: by the cause, they are left alone or cleared in both
   same-refused : 0 < a .refusal → after ≡ after'
-  same-refused l = elim (decLe (a .refusal) 11) [
-    | yes u ↦ h .kept l u ∙ sym (k .kept (omega (arith, agree .refusal)) (omega (arith, agree .refusal)))
-    | no u ↦ h .cleared (omega arith) ∙ sym (k .cleared (omega (arith, agree .refusal)))
-  ]
+  same-refused l = by-cause (h .judged)
+    where
+      left-alone : ¬ Passed bytes before → after ≡ after'
+      left-alone f = h .kept f ∙ sym (k .kept f)
+
+      by-cause : Judged bytes before (a .refusal) → after ≡ after'
+      by-cause (too-short e f) = left-alone (λ p. f (p .0))
+      by-cause (faulty e long c) = left-alone (λ p. c (p .1))
+      by-cause (explored long c v) = h .cleared (long, c) l ∙ sym (k .cleared (long, c) (omega (arith, agree .refusal)))
 
   pub same-buffers : (after .nodes ≡ after' .nodes) × (after .potentials ≡ after' .potentials)
   same-buffers = elim (decLt 0 (a .refusal)) [

@@ -89,4 +89,10 @@ changes =
     ∷ row (set header 3 2 ++ location ++ edge ++ idleEdge 252 255) (refuses 14)
     -- reward left out and edge cost FC FF: only that cycle
     ∷ row (header ++ location ++ idleEdge 252 255) (refuses 13)
+    -- the edge entered twice: refused after a byte more is, and before a bound 00
+    ∷ row (set header 3 2 ++ location ++ edge ++ edge) (refuses 17)
+    ∷ row (set header 3 2 ++ location ++ edge ++ edge ++ 0 ∷ []) (refuses 10)
+    ∷ row (withBound 0 (set header 3 2 ++ location ++ edge ++ edge)) (refuses 17)
+    -- entered twice, with another edge between
+    ∷ row (set header 3 3 ++ location ++ edge ++ set edge 6 3 ++ edge) (refuses 17)
     ∷ []

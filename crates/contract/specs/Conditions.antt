@@ -7,15 +7,11 @@ use Prim.Native.Nat.{ℕ}
 use Rattle.automaton.specs.Tests.{occurs}
 use Rattle.sheet.specs.Questions.{checkOf, checkNumbers, JustWhere}
 use Rattle.contract.specs.Questions.{TooMany, EarningCycle, IdleGain}
-use Rattle.contract.specs.Plan.{Buffers, LongEnough, stepOn, startOf}
+use Rattle.contract.specs.Plan.{Buffers, LongEnough, Passed, stepOn, startOf}
 
 -- 1, those of the check, and 12 to 14
 abbrev pub planNumbers : List ℕ
 planNumbers = 1 ∷ checkNumbers ++ 12 ∷ 13 ∷ 14 ∷ []
-
--- questions 1 to 11 are answered yes
-abbrev pub Passed : List ℕ → Buffers → Type 0
-Passed bytes b = LongEnough b × (checkOf bytes ≡ 0)
 
 pub record OnItsCondition (bytes : List ℕ) (b : Buffers) (r : ℕ) : Type 0 where
   pub one-of : occurs r planNumbers ≡ true

@@ -59,7 +59,11 @@ stepOn bytes = stepBy (layoutOf bytes) (meaning bytes)
 abbrev pub startOf : List ℕ → ℕ
 startOf bytes = startNumber (layoutOf bytes) (meaning bytes)
 
--- "Reading stops at the first question answered no, with that number": 1, then 2 to 11, then 12 to 14
+-- each buffer is long enough, and the sheet passes the check: what is asked from then on is asked of an explored sheet
+abbrev pub Passed : List ℕ → Buffers → Type 0
+Passed bytes b = LongEnough b × (checkOf bytes ≡ 0)
+
+-- "Reading stops at the first question answered no, with that number": 1, then those of the check, then 12 to 14
 pub data Judged (bytes : List ℕ) (b : Buffers) (refusal : ℕ) : Type 0 where
   too-short : refusal ≡ 1 → ¬ LongEnough b → Judged bytes b refusal
   faulty : refusal ≡ checkOf bytes → LongEnough b → checkOf bytes ≢ 0 → Judged bytes b refusal
@@ -69,9 +73,10 @@ pub data Judged (bytes : List ℕ) (b : Buffers) (refusal : ℕ) : Type 0 where
 pub record Planned (bytes : List ℕ) (before after : Buffers) (a : Answer) : Type 0 where
   pub judged : Judged bytes before (a .refusal)
   pub numbers : 0 < a .refusal → a ≡ refusedPlan (a .refusal)
-  -- "Refusals 1 to 11 do not write to any buffer; 12 to 14 set every entry of the three buffers to 0."
-  pub kept : 0 < a .refusal → a .refusal ≤ 11 → after ≡ before
-  pub cleared : 12 ≤ a .refusal → after ≡ zeros before
+  -- By the cause: what a short buffer or the check refuses ("Refusals 1 to 11 do not write to any buffer", and 17 "writes to no buffer"),
+  pub kept : ¬ Passed bytes before → after ≡ before
+  -- and what is refused of an explored sheet ("12 to 14 set every entry of the three buffers to 0")
+  pub cleared : Passed bytes before → 0 < a .refusal → after ≡ zeros before
   pub lengths : SameLengths after before
   pub accepted : a .refusal ≡ 0
       → Accepted (stepOn bytes) (startOf bytes) (a .p) (a .q) (a .n) (a .s) (a .m) (after .nodes) (after .potentials) (after .steps)

@@ -25,7 +25,7 @@ fn wide(x: i16) -> i64
     x as i64
 }
 
-// Questions 2 to 11.
+// The questions of the check: 2 to 10, 17 and 11.
 #[no_mangle]
 pub extern "C" fn planner_check(sheet: &[u8]) -> u8
     ensures { λ r. ⌜ r ≡ checkOf (now (sheet .entry)) ⌝ }

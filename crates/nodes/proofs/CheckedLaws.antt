@@ -17,39 +17,49 @@ use Rattle.automaton.proofs.Tests.{&&-right, &&-intro}
 use Rattle.sheet.specs.Bytes.{byteAt, signedOf}
 use Rattle.sheet.specs.Fields.{firstEdition, costInRange, inRange, fieldOf}
 use Rattle.sheet.specs.Records.{fieldAt, boundAt, recordAt, locationAt, edgeAt, locationsIn, clocksIn, edgesIn}
-use Rattle.sheet.specs.Questions.{each, firstOf, whereThere, fieldGood, mapCode, fieldsCode, boundsCode, endsCode, locationCode, edgeCode, startCode, recordsCode, checkOf}
+use Rattle.sheet.specs.Questions.{orElse, each, firstOf, whereThere, fieldGood, mapCode, fieldsCode, boundsCode, endsCode, locationCode, edgeCode, distinctCode, startCode}
+use Rattle.sheet.specs.Questions.{restCode, recordsCode, checkOf}
 use Rattle.sheet.specs.declared.fields.Kind.{Kind}
 use Rattle.sheet.specs.declared.fields.Kind.the-variants.{LocationRecord, EdgeRecord}
 use Rattle.sheet.specs.declared.fields.Field.the-variants.{Upper}
 use Rattle.sheet.proofs.FieldLaws.{bounds, location-upper, edge-upper}
+use Rattle.sheet.proofs.QuestionLaws.{each-at}
 use Rattle.sheet.proofs.AcceptedLaws.{ask-yes, ask-rest, Header, header}
 use Rattle.nodes.specs.Numbers.{firstLayout}
 use Rattle.nodes.specs.Meaning.{meaning}
 use Rattle.nodes.specs.Decoded.{guardOf}
-use Rattle.nodes.proofs.QuestionLaws.{or-left, or-right, first-at, each-at, or-absent}
+use Rattle.nodes.proofs.QuestionLaws.{or-left, or-right, first-at, or-absent}
 use Rattle.nodes.proofs.NumberLaws.{Room}
 
 -- ---- the records
 
-record Parts (s : List ℕ) : Type 0 where
-  locations : (i : ℕ) → i < locationsIn s → locationCode (clocksIn s) s (locationAt s i) ≡ 0
-  edges : (e : ℕ) → e < edgesIn s → edgeCode (clocksIn s) (locationsIn s) s (edgeAt s e) ≡ 0
-  start : startCode (clocksIn s) s ≡ 0
+pub record Parts (s : List ℕ) : Type 0 where
+  pub locations : (i : ℕ) → i < locationsIn s → locationCode (clocksIn s) s (locationAt s i) ≡ 0
+  pub edges : (e : ℕ) → e < edgesIn s → edgeCode (clocksIn s) (locationsIn s) s (edgeAt s e) ≡ 0
+  pub distinct : distinctCode (edgesIn s) s (locationAt s (locationsIn s)) ≡ 0
+  pub start : startCode (clocksIn s) s ≡ 0
 
-parts : (s : List ℕ) → recordsCode (clocksIn s) (locationsIn s) (edgesIn s) s ≡ 0 → Parts s
-unfolding recordsCode
+pub parts : (s : List ℕ) → recordsCode (clocksIn s) (locationsIn s) (edgesIn s) s ≡ 0 → Parts s
+unfolding recordsCode restCode
 parts s h = record {
   locations = first-at (locationsIn s) ofLocation (or-left (firstOf (locationsIn s) ofLocation) _ h);
   edges = first-at (edgesIn s) ofEdge (or-left (firstOf (edgesIn s) ofEdge) _ (or-right (firstOf (locationsIn s) ofLocation) _ h));
-  start = ask-rest 9 (eqb (edgeAt s (edgesIn s)) (length s)) (startCode (clocksIn s) s)
-      (or-right (firstOf (edgesIn s) ofEdge) _ (or-right (firstOf (locationsIn s) ofLocation) _ h));
+  distinct = or-left distinct (startCode (clocksIn s) s) after-10;
+  start = or-right distinct (startCode (clocksIn s) s) after-10;
 }
   where
+    distinct : ℕ
+    distinct = distinctCode (edgesIn s) s (locationAt s (locationsIn s))
+
     ofLocation : ℕ → ℕ
     ofLocation i = locationCode (clocksIn s) s (locationAt s i)
 
     ofEdge : ℕ → ℕ
     ofEdge e = edgeCode (clocksIn s) (locationsIn s) s (edgeAt s e)
+
+    after-10 : orElse distinct (startCode (clocksIn s) s) ≡ 0
+    after-10 = ask-rest 9 (eqb (edgeAt s (edgesIn s)) (length s)) (orElse distinct (startCode (clocksIn s) s))
+        (or-right (firstOf (edgesIn s) ofEdge) _ (or-right (firstOf (locationsIn s) ofLocation) _ h))
 
 -- ---- the fields of a record
 
@@ -61,7 +71,7 @@ location-good : (k : ℕ) (s : List ℕ) (at : ℕ) → locationCode k s at ≡ 
 unfolding locationCode
 location-good k s at h = fields-good LocationRecord k s at (or-right (boundsCode k s at) _ (or-right (mapCode LocationRecord k s at) _ h))
 
-edge-good : (k l : ℕ) (s : List ℕ) (at : ℕ) → edgeCode k l s at ≡ 0 → (b : ℕ) → b < 16 → fieldGood EdgeRecord k s at b ≡ true
+pub edge-good : (k l : ℕ) (s : List ℕ) (at : ℕ) → edgeCode k l s at ≡ 0 → (b : ℕ) → b < 16 → fieldGood EdgeRecord k s at b ≡ true
 unfolding edgeCode
 edge-good k l s at h = fields-good EdgeRecord k s at (or-left (fieldsCode EdgeRecord k s at) _ (or-right (mapCode EdgeRecord k s at) _ h))
 

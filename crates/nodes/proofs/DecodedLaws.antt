@@ -34,7 +34,7 @@ use Rattle.nodes.proofs.Carried.{named}
 use Rattle.nodes.proofs.AgreeLaws.{Agree}
 use Rattle.nodes.proofs.CheckedLaws.{guard-value}
 
-clock-byte : (kind : Kind) (s : List ℕ) (at b d j : ℕ) → j < 3 → Option·getD (fieldAt kind s at (b + j)) d ≡ getD (clockBytes kind s at b d) j 0
+pub clock-byte : (kind : Kind) (s : List ℕ) (at b d j : ℕ) → j < 3 → Option·getD (fieldAt kind s at (b + j)) d ≡ getD (clockBytes kind s at b d) j 0
 clock-byte kind s at b d zero h = ap (λ (x : ℕ). Option·getD (fieldAt kind s at x) d) (add-zero b)
 clock-byte kind s at b d (suc zero) h = refl
 clock-byte kind s at b d (suc (suc zero)) h = refl
@@ -56,7 +56,7 @@ module _ (s : List ℕ) (ok : checkOf s ≡ 0) where
   unfolding locationsOf
   location-there l h = filled-at (λ i. locationOf s (locationAt s i)) blankLocation 12 (locationsIn s) l (header s ok .locations .1) h
 
-  edge-there : (e : ℕ) → e < edgesIn s → edgeIn (decodedSheet s) e ≡ edgeOf s (edgeAt s e)
+  pub edge-there : (e : ℕ) → e < edgesIn s → edgeIn (decodedSheet s) e ≡ edgeOf s (edgeAt s e)
   unfolding edgesOf
   edge-there e h = filled-at (λ i. edgeOf s (recordAt EdgeRecord s (locationAt s (locationsIn s)) i)) blankEdge 32 (edgesIn s) e (header s ok .edges) h
 

@@ -6,3 +6,6 @@ pub mod CheckedLaws
 pub mod AgreeLaws
 pub mod DecodedLaws
 pub mod CheckNumberLaws
+pub mod RecordBytes
+pub mod SameEdgeLaws
+pub mod DistinctLaws

@@ -1,13 +1,13 @@
 -- What holds where the questions are answered yes, taken apart.
-use mathlib.Core.Path.{_≡_, ap, _∙_}
-use mathlib.Core.Bool.{Bool, true}
+use mathlib.Core.Path.{_≡_, refl, sym, ap, _∙_}
+use mathlib.Core.Bool.{Bool, true, false, _&&_}
 use mathlib.Core.Option.{Option, none, some, Option·getD}
 use Prim.Native.Nat.{ℕ, zero, suc, _<_}
 use native.Mathlib.Decide.{ℕ-discrete}
 use native.Mathlib.Omega.{arith}
 use borrow.Author.Tests.{eqb-true, eqb-false}
 use lib.Dec.{eqb}
-use Rattle.automaton.proofs.Tests.{by-bool, &&-left, &&-right}
+use Rattle.automaton.proofs.Tests.{by-bool, clash}
 use Rattle.sheet.specs.Questions.{orElse, each, firstOf, whereThere}
 
 -- both are 0
@@ -25,13 +25,15 @@ first-at (suc n) f h i l = elim (ℕ-discrete i n) [
   | no e ↦ first-at n f (or-left (firstOf n f) (f n) h) i (omega arith)
 ]
 
-pub each-at : (n : ℕ) (p : ℕ → Bool) → each n p ≡ true → (i : ℕ) → i < n → p i ≡ true
+-- one that is answered no can be found
+pub each-not : (n : ℕ) (p : ℕ → Bool) → each n p ≡ false → (i : ℕ) × (i < n) × (p i ≡ false)
 unfolding each
-each-at zero p h i l = absurd (omega arith)
-each-at (suc n) p h i l = elim (ℕ-discrete i n) [
-  | yes e ↦ ap p e ∙ &&-right (each n p) (p n) h
-  | no e ↦ each-at n p (&&-left (each n p) (p n) h) i (omega arith)
-]
+each-not zero p h = clash refl h
+each-not (suc n) p h =
+    let earlier = each-not n p in
+    by-bool (each n p)
+    (λ t. (n, omega arith, ap (λ (b : Bool). b && p n) (sym t) ∙ h))
+    (λ f. (earlier f .0, omega (arith, earlier f .1), earlier f .2))
 
 -- a field that passed, or what stands for an absent one
 pub or-absent : {P : ℕ → Type 0} (p : ℕ → Bool) (o : Option ℕ) (d : ℕ) → whereThere p o ≡ true → ((v : ℕ) → p v ≡ true → P v) → P d → P (Option·getD o d)

@@ -1,3 +1,4 @@
 pub mod Numbers
 pub mod Meaning
 pub mod Decoded
+pub mod SameEdges

@@ -17,7 +17,7 @@ use Rattle.ratio.specs.Answer.{RatioFound, RatioAnswered}
 use Rattle.ratio.specs.declared.RatioAnswer.{RatioAnswer}
 use Rattle.ratio.specs.declared.RatioAnswer.the-variants as RatioAnswer
 use Rattle.ratio.proofs.RatioAnswerLaws.{room, numbered-13, numbered-14}
-use Rattle.contract.specs.Plan.{Answer, refusedPlan, Buffers, zeros, SameLengths, Judged, Planned}
+use Rattle.contract.specs.Plan.{Answer, refusedPlan, Buffers, zeros, SameLengths, Passed, Judged, Planned}
 use Rattle.planner.specs.ContractTerms.{lentBuffers}
 use Rattle.planner.specs.PrivatePromises.{Handed, Cyclic, PlannedButForClearing}
 
@@ -26,12 +26,13 @@ module _ {bytes : List ℕ} {before after : Buffers} {a : Answer} where
   pub settled-planned : Planned bytes before after a → PlannedButForClearing bytes before after a
   settled-planned w = record { judged = w .judged; numbers = w .numbers; kept = w .kept; accepted = λ _. w }
 
-  -- a refusal after which the buffers are still to be cleared
-  pub settled-refused : (r : ℕ) → a ≡ refusedPlan r → 12 ≤ r → Planned bytes before (zeros before) (refusedPlan r) → PlannedButForClearing bytes before after a
-  settled-refused r e h w = record {
+  -- an explored sheet is refused, and the buffers are still to be cleared
+  pub settled-refused : (r : ℕ) → a ≡ refusedPlan r → 0 < r → Passed bytes before → Planned bytes before (zeros before) (refusedPlan r)
+      → PlannedButForClearing bytes before after a
+  settled-refused r e some passed w = record {
     judged = rw number (w .judged);
     numbers = λ _. e ∙ ap refusedPlan (sym number);
-    kept = λ _ low. absurd (omega (arith, number));
+    kept = λ failed. absurd (failed passed);
     accepted = λ z. absurd (omega (arith, number));
   }
     where
@@ -53,14 +54,14 @@ pub all-zero : {before : Buffers} {N : List ℕ} {P : List ℤ} {S N' : List ℕ
 all-zero l en ep es =
     rw (en ∙ ap (λ (n : ℕ). replicate n 0) (l .nodes), ep ∙ ap (λ (n : ℕ). replicate n (pos 0)) (l .potentials), es ∙ ap (λ (n : ℕ). replicate n 0) (l .steps)) refl
 
--- a refusal after which every entry is 0
-pub refused-planned : {bytes : List ℕ} {before after : Buffers} {r : ℕ} {a : Answer} → a ≡ refusedPlan r → Judged bytes before r
-    → (0 < r → r ≤ 11 → after ≡ before) → after ≡ zeros before → SameLengths after before → 0 < r → Planned bytes before after a
-refused-planned e j kept zero same some = rw e record {
+-- an explored sheet is refused, and every entry is 0
+pub refused-planned : {bytes : List ℕ} {before after : Buffers} {r : ℕ} {a : Answer} → a ≡ refusedPlan r → Judged bytes before r → Passed bytes before
+    → after ≡ zeros before → SameLengths after before → 0 < r → Planned bytes before after a
+refused-planned e j passed zero same some = rw e record {
   judged = j;
   numbers = λ _. refl;
-  kept = kept;
-  cleared = λ _. zero;
+  kept = λ failed. absurd (failed passed);
+  cleared = λ _ _. zero;
   lengths = same;
   accepted = λ z. absurd (omega arith);
   no-loop-below = λ z. absurd (omega arith);

@@ -12,7 +12,7 @@ use Rattle.walks.specs.Form.{Graph}
 use Rattle.walks.specs.Cycles.{SimpleCycle}
 use Rattle.lasso.specs.Answer as Lasso
 use Rattle.ratio.specs.Answer.{RatioFound}
-use Rattle.contract.specs.Plan.{Answer, refusedPlan, Buffers, LongEnough, SameLengths, Judged, Planned, stepOn, startOf}
+use Rattle.contract.specs.Plan.{Answer, refusedPlan, Buffers, LongEnough, SameLengths, Passed, Judged, Planned, stepOn, startOf}
 use Rattle.contract.specs.Explored.{Found, Explored, Sorted}
 
 -- ---- lists that are written
@@ -89,9 +89,9 @@ pub record Solved (F T C order : List ℕ) (D : List ℤ) (cycle : List ℕ) (n 
 
 -- ---- what the plan comes to
 
--- the contract of a plan, but that on 12 to 14 the buffers are still to be cleared
+-- the contract of a plan, but that the buffers are still to be cleared where an explored sheet is refused
 pub record PlannedButForClearing (bytes : List ℕ) (before after : Buffers) (a : Answer) : Type 0 where
   pub judged : Judged bytes before (a .refusal)
   pub numbers : 0 < a .refusal → a ≡ refusedPlan (a .refusal)
-  pub kept : 0 < a .refusal → a .refusal ≤ 11 → after ≡ before
+  pub kept : ¬ Passed bytes before → after ≡ before
   pub accepted : a .refusal ≡ 0 → Planned bytes before after a

@@ -17,7 +17,7 @@ pub struct Answer {
     pub m: u16,
 }
 
-// Questions 1 to 14. Where one of 12 to 14 is answered no, the buffers are still to be cleared.
+// The questions of a plan in their order. Where one of 12 to 14 is answered no, the buffers are still to be cleared.
 fn ask(sheet: &[u8], nodes: &mut [u32], potentials: &mut [i64], steps: &mut [u16]) -> Answer
     ensures { λ r. ⌜ PlannedButForClearing (now (sheet .entry)) (lentBuffers (now (nodes .entry)) (now (potentials .entry)) (now (steps .entry)))
         (lentBuffers (now (nodes .exit)) (now (potentials .exit)) (now (steps .exit))) (answerOf r) ⌝ }
@@ -39,15 +39,16 @@ fn ask(sheet: &[u8], nodes: &mut [u32], potentials: &mut [i64], steps: &mut [u16
     sheets::plan_read(read, nodes, potentials, steps)
 }
 
-// The answer to questions 1 to 14. The nodes' numbers are written to nodes, rising, their potentials to potentials, and the codes of stem and
-// cycle to steps; refusals 12 to 14 clear all three.
+// The answer to the questions of a plan: 1, those of the check, and 12 to 14. The nodes' numbers are written to nodes, rising, their
+// potentials to potentials, and the codes of stem and cycle to steps; refusals 12 to 14 clear all three.
 pub fn plan(sheet: &[u8], nodes: &mut [u32], potentials: &mut [i64], steps: &mut [u16]) -> Answer
     ensures { λ r. ⌜ Planned (now (sheet .entry)) (lentBuffers (now (nodes .entry)) (now (potentials .entry)) (now (steps .entry)))
         (lentBuffers (now (nodes .exit)) (now (potentials .exit)) (now (steps .exit))) (answerOf r) ⌝ }
 {
     let answer = ask(sheet, nodes, potentials, steps);
-    if 12 <= answer.refusal {
-        return output::refuse(answer.refusal, nodes, potentials, steps);
+    let refusal = answer.refusal;
+    match refusal {
+        12..=14 => output::refuse(refusal, nodes, potentials, steps),
+        _ => answer,
     }
-    answer
 }

@@ -10,7 +10,7 @@ use Rattle.sheet.specs.Bytes.{byteAt}
 use Rattle.sheet.specs.Maps.{bitOf, stands}
 use Rattle.sheet.specs.Fields.{firstEdition, isWithin, fieldOf, permittedField, inRange}
 use Rattle.sheet.specs.Records.{mapBytes, mapOf, fieldPlace, valueAt, recordLength, recordAt, locationAt, locationsIn, clocksIn, edgesIn}
-use Rattle.sheet.specs.Questions.{ask, orElse, each, firstOf, whereThere, bitGood, mapCode, fieldGood, endsCode, locationCode, edgeCode, startCode, recordsCode, checkOf}
+use Rattle.sheet.specs.Questions.{ask, orElse, each, firstOf, whereThere, bitGood, mapCode, fieldGood, endsCode, locationCode, edgeCode, distinctCode, startCode, restCode, recordsCode, checkOf}
 use Rattle.sheet.specs.declared.fields.Kind.{Kind}
 use Rattle.sheet.specs.declared.fields.Kind.the-variants.{EdgeRecord}
 use Rattle.sheet.proofs.RecordLaws.{absent, there}
@@ -79,6 +79,12 @@ module _ (l : ℕ) (s : List ℕ) (at : ℕ) where
 
 -- ---- each record in turn, and what follows the last
 
+asked-no : (n : ℕ) (t : Bool) (r : ℕ) → t ≡ false → n ≡ ask n t r
+asked-no n t r e = sym (ap (λ (b : Bool). ask n b r) e)
+
+asked-yes : (n : ℕ) (t : Bool) (r : ℕ) → t ≡ true → r ≡ ask n t r
+asked-yes n t r e = sym (ap (λ (b : Bool). ask n b r) e)
+
 module _ (k l e : ℕ) (s : List ℕ) where
   abbrev pub ofLocation : ℕ → ℕ
   ofLocation i = locationCode k s (locationAt s i)
@@ -86,36 +92,40 @@ module _ (k l e : ℕ) (s : List ℕ) where
   abbrev pub ofEdge : ℕ → ℕ
   ofEdge i = edgeCode k l s (recordAt EdgeRecord s (locationAt s l) i)
 
-  afterEdges : ℕ
-  afterEdges = ask 10 (eqb (recordAt EdgeRecord s (locationAt s l) e) (length s)) (startCode k s)
-
   pub location-refused : (i : ℕ) → i < l → firstOf i ofLocation ≡ 0 → (ofLocation i ≡ 0 → ⊥) → ofLocation i ≡ recordsCode k l e s
-  unfolding recordsCode afterEdges
+  unfolding recordsCode
   location-refused i h z n =
       let d : firstOf l ofLocation ≡ ofLocation i = first-is l ofLocation i h z n in
-      sym (or-first (firstOf l ofLocation) (orElse (firstOf e ofEdge) afterEdges) (λ q. n (sym d ∙ q)) ∙ d)
+      sym (or-first (firstOf l ofLocation) (orElse (firstOf e ofEdge) (restCode k l e s)) (λ q. n (sym d ∙ q)) ∙ d)
 
   module _ (locations-pass : firstOf l ofLocation ≡ 0) where
     pub edge-refused : (i : ℕ) → i < e → firstOf i ofEdge ≡ 0 → (ofEdge i ≡ 0 → ⊥) → ofEdge i ≡ recordsCode k l e s
-    unfolding recordsCode afterEdges
+    unfolding recordsCode
     edge-refused i h z n =
         let d : firstOf e ofEdge ≡ ofEdge i = first-is e ofEdge i h z n in
-        sym (or-zero (firstOf l ofLocation) (orElse (firstOf e ofEdge) afterEdges) locations-pass
-        ∙ or-first (firstOf e ofEdge) afterEdges (λ q. n (sym d ∙ q)) ∙ d)
+        sym (or-zero (firstOf l ofLocation) (orElse (firstOf e ofEdge) (restCode k l e s)) locations-pass
+        ∙ or-first (firstOf e ofEdge) (restCode k l e s) (λ q. n (sym d ∙ q)) ∙ d)
 
     module _ (edges-pass : firstOf e ofEdge ≡ 0) where
-      records-pass : afterEdges ≡ recordsCode k l e s
-      unfolding recordsCode afterEdges
-      records-pass = sym (or-zero (firstOf l ofLocation) (orElse (firstOf e ofEdge) afterEdges) locations-pass
-          ∙ or-zero (firstOf e ofEdge) afterEdges edges-pass)
+      records-pass : restCode k l e s ≡ recordsCode k l e s
+      unfolding recordsCode
+      records-pass = sym (or-zero (firstOf l ofLocation) (orElse (firstOf e ofEdge) (restCode k l e s)) locations-pass
+          ∙ or-zero (firstOf e ofEdge) (restCode k l e s) edges-pass)
 
       pub bytes-left : (recordAt EdgeRecord s (locationAt s l) e ≡ length s → ⊥) → 10 ≡ recordsCode k l e s
-      unfolding afterEdges
-      bytes-left n = sym (ap (λ (t : Bool). ask 10 t (startCode k s)) (ne-eqb _ _ n)) ∙ records-pass
+      unfolding restCode
+      bytes-left n = asked-no 10 (eqb (recordAt EdgeRecord s (locationAt s l) e) (length s)) _ (ne-eqb _ _ n) ∙ records-pass
 
-      pub all-used : recordAt EdgeRecord s (locationAt s l) e ≡ length s → startCode k s ≡ recordsCode k l e s
-      unfolding afterEdges
-      all-used h = sym (ap (λ (t : Bool). ask 10 t (startCode k s)) (eq-eqb _ _ h)) ∙ records-pass
+      module _ (all-used : recordAt EdgeRecord s (locationAt s l) e ≡ length s) where
+        pub entered-twice : (distinctCode e s (locationAt s l) ≡ 0 → ⊥) → distinctCode e s (locationAt s l) ≡ recordsCode k l e s
+        unfolding restCode
+        entered-twice n = sym (or-first (distinctCode e s (locationAt s l)) (startCode k s) n)
+            ∙ asked-yes 10 (eqb (recordAt EdgeRecord s (locationAt s l) e) (length s)) _ (eq-eqb _ _ all-used) ∙ records-pass
+
+        pub all-distinct : distinctCode e s (locationAt s l) ≡ 0 → startCode k s ≡ recordsCode k l e s
+        unfolding restCode
+        all-distinct z = sym (or-zero (distinctCode e s (locationAt s l)) (startCode k s) z)
+            ∙ asked-yes 10 (eqb (recordAt EdgeRecord s (locationAt s l) e) (length s)) _ (eq-eqb _ _ all-used) ∙ records-pass
 
 -- ---- questions 2 to 4
 

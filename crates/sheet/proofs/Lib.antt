@@ -2,6 +2,9 @@ pub mod MapLaws
 pub mod FieldLaws
 pub mod RecordLaws
 pub mod QuestionLaws
+pub mod AlikeLaws
+pub mod KeyLaws
+pub mod PairLaws
 pub mod CodeLaws
 pub mod AcceptedLaws
 pub mod DecodeLaws

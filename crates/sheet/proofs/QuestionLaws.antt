@@ -7,6 +7,7 @@ use native.Mathlib.Decide.{ℕ-discrete}
 use native.Mathlib.Omega.{arith}
 use borrow.Author.Tests.{eq-eqb, ne-eqb, not-true, not-false}
 use Rattle.sheet.specs.Questions.{ask, orElse, each, firstOf}
+use Rattle.sheet.proofs.AcceptedLaws.{left, right}
 
 -- ---- each number passes
 
@@ -29,6 +30,19 @@ each-fails (suc n) p i h k = elim (ℕ-discrete i n) [
   | yes e ↦ ap (λ (b : Bool). each n p && b) (subst (λ (j : ℕ). p j ≡ false) e k) ∙ no-more (each n p)
   | no e ↦ ap (λ (b : Bool). b && p n) (each-fails n p i (omega arith) k)
 ]
+
+pub each-at : (n : ℕ) (p : ℕ → Bool) → each n p ≡ true → (i : ℕ) → i < n → p i ≡ true
+unfolding each
+each-at zero p h i l = absurd (omega arith)
+each-at (suc n) p h i l = elim (ℕ-discrete i n) [
+  | yes e ↦ ap p e ∙ right (each n p) (p n) h
+  | no e ↦ each-at n p (left (each n p) (p n) h) i (omega arith)
+]
+
+pub each-true : (n : ℕ) (p : ℕ → Bool) → ((i : ℕ) → i < n → p i ≡ true) → each n p ≡ true
+unfolding each
+each-true zero p h = refl
+each-true (suc n) p h = ap₂ _&&_ (each-true n p (λ i l. h i (omega arith))) (h n (omega arith))
 
 -- ---- the first that is not 0
 

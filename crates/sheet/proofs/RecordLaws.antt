@@ -4,6 +4,7 @@ use mathlib.Core.List.{List}
 use mathlib.Core.Option.{none, some}
 use Prim.Native.Nat.{ℕ, zero, suc, _+_, _*_, _≤_, _<_}
 use native.Mathlib.Numerals.{add-one}
+use native.Mathlib.Decide.{ℕ-discrete}
 use native.Mathlib.Omega.{arith}
 use borrow.Author.Tests.{lt-ltb, le-ltb, eq-eqb, ne-eqb}
 use Rattle.sheet.specs.Bytes.{byteAt, wordAt}
@@ -25,6 +26,11 @@ pub length-le : (kind : Kind) (s : List ℕ) (at : ℕ) → recordLength kind s 
 unfolding recordLength
 length-le kind s at = omega (arith, place-le (mapOf kind s at) 16, head-le kind)
 
+-- the map, the source and the target are always there
+pub four-there : (s : List ℕ) (at : ℕ) → 4 ≤ recordLength EdgeRecord s at
+unfolding recordLength
+four-there s at = omega arith
+
 pub place-bound : (kind : Kind) (s : List ℕ) (at b : ℕ) → fieldPlace kind s at b ≤ at + b + 6
 unfolding fieldPlace
 place-bound kind s at b = omega (arith, place-le (mapOf kind s at) b, head-le kind)
@@ -37,6 +43,15 @@ pub at-le : (kind : Kind) (s : List ℕ) (from i : ℕ) → recordAt kind s from
 unfolding recordAt
 at-le kind s from zero = omega arith
 at-le kind s from (suc i) = omega (arith, at-le kind s from i, length-le kind s (recordAt kind s from i))
+
+-- each of n records ends where the last does, or before
+pub at-inside : (kind : Kind) (s : List ℕ) (from n i : ℕ) → i < n → recordAt kind s from i + recordLength kind s (recordAt kind s from i) ≤ recordAt kind s from n
+unfolding recordAt
+at-inside kind s from zero i h = absurd (omega arith)
+at-inside kind s from (suc n) i h = elim (ℕ-discrete i n) [
+  | yes e ↦ omega (arith, ap (λ (k : ℕ). recordAt kind s from (suc k)) e)
+  | no e ↦ omega (arith, at-inside kind s from n i (omega arith))
+]
 
 -- ---- the field of bit b
 

@@ -4,3 +4,4 @@ pub mod Fields
 pub mod Records
 pub mod Questions
 pub mod Decoded
+pub mod Keys

@@ -70,17 +70,32 @@ locationCode k s at = orElse (mapCode LocationRecord k s at) (orElse (boundsCode
 unfoldable pub edgeCode : ℕ → ℕ → List ℕ → ℕ → ℕ
 edgeCode k l s at = orElse (mapCode EdgeRecord k s at) (orElse (fieldsCode EdgeRecord k s at) (endsCode l s at))
 
+-- the edge records at x and at y are the same bytes: as many, and each of them the same
+unfoldable pub sameRecord : List ℕ → ℕ → ℕ → Bool
+sameRecord s x y =
+    eqb (recordLength EdgeRecord s x) (recordLength EdgeRecord s y)
+    && each (recordLength EdgeRecord s x) (λ i. eqb (byteAt s (x + i)) (byteAt s (y + i)))
+
+-- 17. "Two edge records equal in every byte shall be turned back": of the e records that begin at `from`, does each differ from all before it?
+unfoldable pub distinctCode : ℕ → List ℕ → ℕ → ℕ
+distinctCode e s from = ask 17 (each e (λ j. each j (λ i. not (sameRecord s (recordAt EdgeRecord s from i) (recordAt EdgeRecord s from j))))) 0
+
 -- 11. "Do location 0's bounds admit all clocks at 0?" The upper byte 0 means clock < 0.
 unfoldable pub startCode : ℕ → List ℕ → ℕ
 startCode k s = ask 11 (each k (λ j. ltb 0 (boundAt s 4 j))) 0
 
--- "For each record in turn", and then 10. "Has every byte been used?" and 11
+-- 10. "Has every byte been used?", then 17, "put between questions 10 and 11", and 11
+unfoldable pub restCode : ℕ → ℕ → ℕ → List ℕ → ℕ
+restCode k l e s =
+    ask 10 (eqb (recordAt EdgeRecord s (locationAt s l) e) (length s))
+    (orElse (distinctCode e s (locationAt s l)) (startCode k s))
+
+-- "For each record in turn", and then the rest
 unfoldable pub recordsCode : ℕ → ℕ → ℕ → List ℕ → ℕ
 recordsCode k l e s =
     orElse (firstOf l (λ i. locationCode k s (locationAt s i)))
     (orElse (firstOf e (λ i. edgeCode k l s (recordAt EdgeRecord s (locationAt s l) i)))
-    (ask 10 (eqb (recordAt EdgeRecord s (locationAt s l) e) (length s))
-    (startCode k s)))
+    (restCode k l e s))
 
 -- 2. "Is the length 4 to 580?" 3. "Is the edition 1?" 4. "Are L, K, E in range?"
 unfoldable pub checkOf : List ℕ → ℕ
@@ -92,7 +107,7 @@ checkOf s =
 
 -- the numbers that the check can answer
 abbrev pub checkNumbers : List ℕ
-checkNumbers = 0 ∷ 2 ∷ 3 ∷ 4 ∷ 5 ∷ 6 ∷ 7 ∷ 8 ∷ 9 ∷ 10 ∷ 11 ∷ []
+checkNumbers = 0 ∷ 2 ∷ 3 ∷ 4 ∷ 5 ∷ 6 ∷ 7 ∷ 8 ∷ 9 ∷ 10 ∷ 17 ∷ 11 ∷ []
 
 -- the number r is k where this holds, and only there
 abbrev pub JustWhere : ℕ → ℕ → Type 0 → Type 0

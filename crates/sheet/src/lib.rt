@@ -5,7 +5,9 @@ ghost use Rattle.sheet.specs.Decoded.{readOf};
 
 mod bytes;
 mod decode;
+mod distinct;
 mod fields;
+mod keys;
 mod questions;
 mod records;
 
@@ -37,7 +39,7 @@ pub struct Sheet {
     pub edge: [Edge; 32],
 }
 
-// 0, or the number of the first of questions 2 to 11 that is answered no.
+// 0, or the number of the first of questions 2 to 10, 17 and 11 that is answered no.
 pub fn check(sheet: &[u8]) -> u8
     ensures { λ r. ⌜ r ≡ checkOf (now (sheet .entry)) ⌝ }
 {

@@ -133,7 +133,7 @@ fn start_code(s: &[u8], clocks: u32) -> u8
     code
 }
 
-// Questions 5 to 11: each record in turn, then what follows the last.
+// Questions 5 to 10, 17 and 11: each record in turn, then what follows the last.
 fn records_code(s: &[u8], clocks: u32, locations: usize, edges: usize) -> u8
     requires { ⌜ (clocks ≤ 3) × ((locations ≤ 12) × (edges ≤ 32)) ⌝ }
     ensures { λ r. ⌜ r ≡ recordsCode clocks locations edges (now (s .entry)) ⌝ }
@@ -147,6 +147,7 @@ fn records_code(s: &[u8], clocks: u32, locations: usize, edges: usize) -> u8
             }
             at = at + crate::records::record_length(s, Kind::LocationRecord, at);
         }
+        let from = at;
         for e in 0..edges {
             let refused = edge_code(s, clocks, locations, at);
             if refused != 0 {
@@ -157,12 +158,16 @@ fn records_code(s: &[u8], clocks: u32, locations: usize, edges: usize) -> u8
         if at != s.len() {
             break 'records 10;
         }
+        let twice = crate::distinct::distinct_code(s, from, edges);
+        if twice != 0 {
+            break 'records twice;
+        }
         break 'records start_code(s, clocks);
     };
     code
 }
 
-// Questions 2 to 11.
+// All of them: 2 to 10, 17 and 11.
 pub(crate) fn check(s: &[u8]) -> u8
     ensures { λ r. ⌜ r ≡ checkOf (now (s .entry)) ⌝ }
 {

@@ -19,7 +19,7 @@ use Rattle.region.specs.declared.Stepped.{Stepped}
 unfoldable pub answerAt : Layout → Automaton → ℕ → ℕ → Stepped
 answerAt y A x code = cond (isNumber y A x) (answered (stepBy y A x code)) (refusedStep 15)
 
--- questions 2 to 11, then 15 and 16
+-- the questions of the check, then 15 and 16
 unfoldable pub stepOf : List ℕ → ℕ → ℕ → Stepped
 stepOf s x code = cond (eqb (checkOf s) 0) (answerAt (layoutOf s) (meaning s) x code) (refusedStep (checkOf s))
 

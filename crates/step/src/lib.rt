@@ -105,7 +105,7 @@ fn step_in(sheet: Sheet, number: u32, code: u16) -> Stepped
     step_from(sheet, number, code)
 }
 
-// One step: questions 2 to 11, then 15 and 16.
+// One step: the questions of the check, then 15 and 16.
 pub fn step(sheet: &[u8], number: u32, code: u16) -> Stepped
     ensures { λ r. ⌜ r ≡ stepOf (now (sheet .entry)) number code ⌝ }
 {

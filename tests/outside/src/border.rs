@@ -44,13 +44,15 @@ fn pad(sheet: &mut Sheet, mut missing: usize, random: &mut Random, prices: Price
     true
 }
 
-/// Fills up with edges from location 0 to all, guarded or not, with all clocks reset.
+/// Fills up with different edges from location 0 to all, guarded or not, with all clocks reset.
 fn fill(sheet: &mut Sheet, edges: usize, random: &mut Random, prices: Prices) {
     while sheet.edges.len() < edges {
         let (target, mask) = (random.below(sheet.locations.len()), (1 << sheet.clocks) - 1);
         let mut edge = Edge { target, mask, ..earning_edge(random, prices) };
         edge.lower[0] = random.percent(20).then(|| random.within(1, 7) as u8);
-        sheet.edges.push(edge);
+        if !sheet.edges.contains(&edge) {
+            sheet.edges.push(edge);
+        }
     }
 }
 

@@ -1,6 +1,6 @@
 //! Sheets that are built to a plan, where random ones would seldom come to it.
 
-use crate::generate::{cost, reward, sheet, Shape};
+use crate::generate::{cost, leave_out_copies, reward, sheet, Shape};
 use crate::random::Random;
 use crate::sheet::{Edge, Sheet};
 
@@ -54,5 +54,6 @@ pub fn long(random: &mut Random, shape: &Shape) -> Sheet {
             (edge.lower, edge.upper) = ([Some(1); 3], [Some(25); 3]);
         }
     }
+    leave_out_copies(&mut made);
     made
 }

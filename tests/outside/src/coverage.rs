@@ -11,7 +11,7 @@ use crate::tally::Tally;
 pub const SHEETS: u64 = 20_000;
 
 /// Each kind and the least number of its cases among so many sheets.
-pub const PROMISED: [(&str, u64); 67] = [
+pub const PROMISED: [(&str, u64); 70] = [
     ("plan answers:  0", 4000),
     ("plan answers:  1", 20_000),
     ("plan answers:  2", 100),
@@ -27,6 +27,7 @@ pub const PROMISED: [(&str, u64); 67] = [
     ("plan answers: 12", 200),
     ("plan answers: 13", 2000),
     ("plan answers: 14", 400),
+    ("plan answers: 17", 1000),
     ("step answers:  0", 100_000),
     ("step answers:  2", 1000),
     ("step answers:  3", 1000),
@@ -40,6 +41,8 @@ pub const PROMISED: [(&str, u64); 67] = [
     ("step answers: 11", 1000),
     ("step answers: 15", 100_000),
     ("step answers: 16", 100_000),
+    ("step answers: 17", 100_000),
+    ("damaged variants, check answers: 17", 1000),
     ("accepted: 1 clock", 500),
     ("accepted: 2 clocks", 500),
     ("accepted: 3 clocks", 500),

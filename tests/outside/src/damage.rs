@@ -1,7 +1,7 @@
-//! Faults in the bytes of a sheet, one of each kind that questions 2 to 11 ask for.
+//! Faults in the bytes of a sheet, one of each kind that questions 2 to 11 and 17 ask for.
 
+use crate::fields::Field;
 use crate::random::Random;
-use crate::sheet::Field;
 use crate::write::Written;
 
 fn put_bad_value(random: &mut Random, bytes: &mut [u8], at: usize, field: Field) {
@@ -51,7 +51,7 @@ fn map_bit(random: &mut Random, bytes: &mut [u8], records: &[usize]) {
 }
 
 /// Takes one bound of a location away, its bit and its byte.
-fn drop_bound(random: &mut Random, bytes: &mut Vec<u8>, records: &[usize]) {
+pub fn drop_bound(random: &mut Random, bytes: &mut Vec<u8>, records: &[usize]) {
     let at = records[random.below(usize::from(bytes[1]))];
     let map = bytes[at];
     let clock = random.below(usize::from(bytes[2]));
@@ -77,18 +77,31 @@ fn bad_end(random: &mut Random, bytes: &mut [u8], ends: &[usize]) {
     }
 }
 
+/// Lets the start ask for clock 0 to be below 0.
+pub fn close_start(bytes: &mut [u8], sheet: &Written) {
+    let first = sheet.fields.iter().find(|field| field.1 == Field::Upper);
+    bytes[first.expect("location 0 has a bound").0] = 0;
+}
+
+/// Enters an edge once more, behind all others.
+fn paste(random: &mut Random, bytes: &mut Vec<u8>, sheet: &Written) {
+    let edges = sheet.ends.len();
+    if edges > 0 {
+        bytes.extend_from_within(sheet.record(sheet.records.len() - 1 - random.below(edges)));
+        bytes[3] = bytes[3].wrapping_add(1);
+    }
+}
+
 /// A fault that leaves every place where it is.
-fn in_place(random: &mut Random, bytes: &mut [u8], sheet: &Written) {
-    match random.below(9) {
+fn in_place(random: &mut Random, bytes: &mut Vec<u8>, sheet: &Written) {
+    match random.below(10) {
         0 => header(random, bytes),
         1 => counts(random, bytes),
         2 => map_bit(random, bytes, &sheet.records),
         3..=5 => bad_field(random, bytes, &sheet.fields),
         6 => bad_end(random, bytes, &sheet.ends),
-        7 => {
-            let first = sheet.fields.iter().find(|field| field.1 == Field::Upper);
-            bytes[first.expect("location 0 has a bound").0] = 0;
-        }
+        7 => close_start(bytes, sheet),
+        8 => paste(random, bytes, sheet),
         _ => {
             let at = random.below(bytes.len());
             bytes[at] = random.next() as u8;
@@ -99,9 +112,9 @@ fn in_place(random: &mut Random, bytes: &mut [u8], sheet: &Written) {
 /// Several faults in one record, so that the order of its questions is seen.
 fn in_one_record(random: &mut Random, bytes: &mut [u8], sheet: &Written) {
     let record = random.below(sheet.records.len());
-    let begin = sheet.records[record];
-    let end = sheet.records.get(record + 1).copied().unwrap_or(bytes.len());
-    let inside = |at: usize| (begin..end).contains(&at);
+    let range = sheet.record(record);
+    let begin = range.start;
+    let inside = |at: usize| range.contains(&at);
     let fields: Vec<_> = sheet.fields.iter().copied().filter(|field| inside(field.0)).collect();
     let ends: Vec<_> = sheet.ends.iter().copied().filter(|&at| inside(at)).collect();
     if random.percent(80) {

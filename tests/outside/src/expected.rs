@@ -6,7 +6,7 @@ use crate::sheet::{read, Sheet};
 
 pub struct Expected {
     pub refusal: u8,
-    /// There where questions 2 to 11 are answered yes.
+    /// There where questions 2 to 11 and 17 are answered yes.
     pub sheet: Option<Sheet>,
     /// There with the sheet; not whole where the refusal is 12.
     pub graph: Option<Graph>,
@@ -25,6 +25,15 @@ fn refusal_of(graph: &Graph) -> u8 {
         14
     } else {
         0
+    }
+}
+
+/// What a plan of the sheet would answer if question 17 were not asked.
+pub fn refusal_but_for_17(sheet: &Sheet) -> u8 {
+    if sheet.start_admits_zero() {
+        refusal_of(&explore(sheet, COUNTED))
+    } else {
+        11
     }
 }
 

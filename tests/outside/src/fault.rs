@@ -3,6 +3,7 @@
 use crate::explore::MOST_NODES;
 use crate::marked::Buffers;
 use crate::planted::{accepted, refused};
+use crate::planted_twice::Twice;
 use planner::calls::{self, PlanNumbers, StepNumbers};
 
 #[derive(Clone, Copy, Debug, PartialEq)]
@@ -47,9 +48,9 @@ pub enum Fault {
     Border,
     /// 13 for every sheet that is accepted.
     NoneEarns,
-    /// A refusal below 12 writes to a buffer.
+    /// A refusal from 2 to 11 writes to a buffer.
     Write,
-    /// A refusal from 12 on leaves an entry.
+    /// A refusal from 12 to 14 leaves an entry.
     Leave,
     /// A refused plan leaves one of its numbers as it was.
     Unwritten,
@@ -65,9 +66,11 @@ pub enum Fault {
     Prices,
     /// 16 in place of 15.
     Number,
+    /// A fault in question 17.
+    Twice(Twice),
 }
 
-pub const FAULTS: [(&str, Fault); 29] = [
+pub const FAULTS: [(&str, Fault); 38] = [
     ("high", Fault::High),
     ("low", Fault::Low),
     ("terms", Fault::Terms),
@@ -97,6 +100,15 @@ pub const FAULTS: [(&str, Fault); 29] = [
     ("step", Fault::Step),
     ("prices", Fault::Prices),
     ("number", Fault::Number),
+    ("twice-missed", Fault::Twice(Twice::Missed)),
+    ("twice-neighbours", Fault::Twice(Twice::Neighbours)),
+    ("twice-last-byte", Fault::Twice(Twice::LastByte)),
+    ("twice-map", Fault::Twice(Twice::Map)),
+    ("twice-late", Fault::Twice(Twice::Late)),
+    ("twice-early", Fault::Twice(Twice::Early)),
+    ("twice-step", Fault::Twice(Twice::Step)),
+    ("twice-plan", Fault::Twice(Twice::Plan)),
+    ("twice-clear", Fault::Twice(Twice::Clear)),
 ];
 
 pub struct Planner {
@@ -107,6 +119,7 @@ impl Planner {
     pub fn check(&self, sheet: &[u8]) -> u8 {
         match (self.fault, calls::check(sheet)) {
             (Some(Fault::Check), 8) => 9,
+            (Some(Fault::Twice(twice)), refusal) => twice.checked(sheet, refusal),
             (_, refusal) => refusal,
         }
     }
@@ -118,6 +131,7 @@ impl Planner {
         let refusal = calls::step(sheet, node, code, numbers);
         match (self.fault, refusal) {
             (Some(Fault::Number), 15) => return 16,
+            (Some(Fault::Twice(Twice::Step)), 17) => return 16,
             (Some(Fault::Stale), 2..) => numbers.cost = before.cost,
             _ => {}
         }

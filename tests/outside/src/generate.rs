@@ -124,6 +124,7 @@ fn edge(random: &mut Random, shape: &Shape, place: usize) -> Edge {
     edge
 }
 
+/// A sheet of this shape; no two of its edges are equal.
 pub fn sheet(random: &mut Random, shape: &Shape) -> Sheet {
     let mut sheet = Sheet { clocks: shape.clocks, ..Sheet::default() };
     let mut left = shape.room;
@@ -141,8 +142,22 @@ pub fn sheet(random: &mut Random, shape: &Shape) -> Sheet {
         sheet.locations.push(made);
     }
     for place in 0..shape.edges {
-        let made = edge(random, shape, place);
+        let mut made = edge(random, shape, place);
+        while sheet.edges.contains(&made) {
+            made = edge(random, shape, place);
+        }
         sheet.edges.push(made);
     }
     sheet
+}
+
+/// Leaves out each edge that is equal to an earlier one, which has the same steps.
+pub fn leave_out_copies(sheet: &mut Sheet) {
+    let mut kept: Vec<Edge> = Vec::new();
+    for edge in sheet.edges.drain(..) {
+        if !kept.contains(&edge) {
+            kept.push(edge);
+        }
+    }
+    sheet.edges = kept;
 }

@@ -67,7 +67,7 @@ pub fn judge_steps(
     tally: &mut Tally,
 ) -> Verdict<()> {
     let read = expected.sheet.as_ref().ok_or(expected.refusal);
-    let mut answers = [0; 17];
+    let mut answers = [0; 18];
     for number in numbers(expected, random) {
         let far = [255, 256, 256 + 32, 256 + 33, 1 << 15 | 32, 65_535, random.next() as u16];
         for code in (0..=40).chain(far) {

@@ -3,65 +3,42 @@
 use crate::border::exact;
 use crate::built::{dear_ring, long, ring};
 use crate::damage::{damage, damage_more, noise};
-use crate::generate::{sheet, Prices, Shape};
+use crate::generate::{leave_out_copies, sheet, Prices, Shape};
 use crate::idle::{lay, take_rewards, take_some_rewards, Laid};
 use crate::random::Random;
+use crate::shapes::{shape_of, small_shape};
+use crate::twice::{alike, all_alike, twice, twice_and_fault};
 use crate::write::write;
 
+/// The kind with an edge entered twice and one fault more.
+pub const TWICE_AND_FAULT: &str = "edge twice and a fault";
+
 /// Each kind and how many of a thousand sheets are of it.
-const KINDS: [(&str, u64); 19] = [
-    ("tiny", 80),
-    ("small", 130),
-    ("strict", 50),
-    ("closed", 50),
-    ("large", 60),
+const KINDS: [(&str, u64); 23] = [
+    ("tiny", 55),
+    ("small", 85),
+    ("strict", 45),
+    ("closed", 45),
+    ("large", 45),
     ("border", 80),
     ("dense", 20),
-    ("too many", 40),
-    ("no cycle", 50),
+    ("too many", 30),
+    ("no cycle", 45),
     ("idle, costs", 50),
     ("idle, free", 40),
     ("idle, gains", 50),
-    ("extreme", 50),
+    ("extreme", 40),
     ("ring", 20),
     ("dear ring", 10),
     ("long", 20),
-    ("damaged", 100),
-    ("damaged more", 70),
-    ("noise", 30),
+    ("edge twice", 60),
+    (TWICE_AND_FAULT, 30),
+    ("edges alike", 45),
+    ("all edges alike", 5),
+    ("damaged", 95),
+    ("damaged more", 65),
+    ("noise", 20),
 ];
-
-pub fn small_shape(random: &mut Random) -> Shape {
-    let locations = 1 + random.below(5);
-    Shape {
-        clocks: 1 + random.below(3),
-        locations,
-        edges: locations + 1 + random.below(8),
-        bound: random.within(2, 5),
-        room: 1500,
-        strict: random.pick(&[0, 30, 50]),
-        guards: random.pick(&[10, 30]),
-        resets: random.pick(&[35, 60]),
-        earning: random.pick(&[100, 100, 70]),
-        rates: 70,
-        prices: random.pick(&[Prices::Small, Prices::Wide, Prices::Negative]),
-        forward: false,
-    }
-}
-
-pub fn tiny_shape(random: &mut Random) -> Shape {
-    let locations = 1 + random.below(2);
-    let edges = locations + random.below(3);
-    let bound = random.within(1, 3);
-    Shape { locations, edges, bound, room: 600, ..small_shape(random) }
-}
-
-fn large_shape(random: &mut Random) -> Shape {
-    let locations = 2 + random.below(11);
-    let edges = (locations + 2 + random.below(20)).min(32);
-    let (bound, room, guards, earning) = (12, 2000, 10, 100);
-    Shape { locations, edges, bound, room, guards, earning, ..small_shape(random) }
-}
 
 fn border_bytes(random: &mut Random, dense: bool) -> Vec<u8> {
     let clocks = random.pick(&[2, 2, 3]);
@@ -83,50 +60,9 @@ fn border_bytes(random: &mut Random, dense: bool) -> Vec<u8> {
     if random.percent(30) {
         take_some_rewards(random, &mut made);
         lay(random, &mut made, Laid::CostOrFree, shape.prices);
+        leave_out_copies(&mut made);
     }
     write(&made).bytes
-}
-
-fn shape_of(random: &mut Random, kind: &str) -> Shape {
-    let small = small_shape(random);
-    match kind {
-        "tiny" => tiny_shape(random),
-        "strict" => Shape { strict: 100, ..small },
-        "closed" => Shape { strict: 0, ..small },
-        "large" => large_shape(random),
-        "too many" => Shape {
-            clocks: 3,
-            room: 100_000,
-            guards: 5,
-            bound: random.within(4, 12),
-            edges: small.locations + 6,
-            resets: 40,
-            ..small
-        },
-        "no cycle" => Shape { forward: random.percent(70), guards: 80, ..small },
-        "idle" => Shape { earning: random.pick(&[20, 50, 80]), guards: 20, ..small },
-        "extreme" => Shape { prices: Prices::Extreme, earning: 100, rates: 100, ..small },
-        "ring" | "dear ring" => Shape {
-            locations: if kind == "ring" { 2 + random.below(11) } else { 11 + random.below(2) },
-            edges: 0,
-            bound: 12,
-            room: 100_000,
-            rates: 100,
-            prices: random.pick(&[Prices::Wide, Prices::Extreme]),
-            ..small
-        },
-        "long" => Shape {
-            clocks: 3,
-            locations: 12,
-            edges: 32,
-            guards: 100,
-            resets: 70,
-            earning: 100,
-            prices: Prices::Negative,
-            ..small
-        },
-        _ => small,
-    }
 }
 
 /// Half of the sheets or so have cycles that earn beside the idle ones.
@@ -138,6 +74,7 @@ fn idle_bytes(random: &mut Random, laid: &[Laid]) -> Vec<u8> {
     }
     let laid = random.pick(laid);
     lay(random, &mut made, laid, shape.prices);
+    leave_out_copies(&mut made);
     write(&made).bytes
 }
 
@@ -167,12 +104,16 @@ pub fn generate(seed: u64) -> (&'static str, Vec<u8>) {
         "idle, costs" => idle_bytes(random, &[Laid::Cost, Laid::CostOrFree]),
         "idle, free" => idle_bytes(random, &[Laid::Free]),
         "idle, gains" => idle_bytes(random, &[Laid::GainOrCost]),
+        TWICE_AND_FAULT => twice_and_fault(random),
+        "edges alike" => alike(random),
         "damaged" => damaged_bytes(random, false),
         "damaged more" => damaged_bytes(random, true),
         "noise" => noise(random),
         _ => {
             let shape = shape_of(random, kind);
             let made = match kind {
+                "edge twice" => twice(random, &shape),
+                "all edges alike" => all_alike(random, &shape),
                 "ring" => ring(random, &shape),
                 "dear ring" => dear_ring(random, &shape),
                 "long" => long(random, &shape),

@@ -1,5 +1,6 @@
 //! Compares the proved planner with an implementation of its own, written from the specification.
 
+mod alike;
 mod arguments;
 mod border;
 mod built;
@@ -10,6 +11,7 @@ mod damage;
 mod expected;
 mod explore;
 mod fault;
+mod fields;
 mod generate;
 mod graphs;
 mod hexadecimal;
@@ -23,15 +25,18 @@ mod kinds;
 mod marked;
 mod nths;
 mod planted;
+mod planted_twice;
 mod program;
 mod questions;
 mod random;
 mod region;
 mod runs;
 mod sha256;
+mod shapes;
 mod sheet;
 mod sheets;
 mod tally;
+mod twice;
 mod weights;
 mod write;
 

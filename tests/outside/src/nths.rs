@@ -4,14 +4,14 @@
 use crate::arguments::Arguments;
 use crate::coverage::all_closed;
 use crate::fault::Planner;
-use crate::generate::{sheet, Shape};
+use crate::generate::{leave_out_copies, sheet, Shape};
 use crate::hexadecimal;
 use crate::idle::{lay, take_rewards, Laid};
 use crate::judge_plan::Verdict;
-use crate::kinds::{small_shape, tiny_shape};
 use crate::questions::{idle_cycles, some_cycle_earns, some_idle_cycle_gains, Idle};
 use crate::random::Random;
 use crate::runs::{explore, loop_below, Runs};
+use crate::shapes::{small_shape, tiny_shape};
 use crate::sheet::Sheet;
 use crate::tally::Tally;
 use crate::write::write;
@@ -154,6 +154,7 @@ fn make(seed: u64) -> Sheet {
         let gain = Laid::GainOrCost;
         let laid = random.pick(&[Laid::Cost, Laid::CostOrFree, Laid::Free, gain, gain]);
         lay(random, &mut made, laid, shape.prices);
+        leave_out_copies(&mut made);
     }
     made
 }

@@ -6,6 +6,7 @@ use crate::fault::Fault;
 use crate::idle_lasso::idle_lasso;
 use crate::judge_plan::divisor;
 use crate::marked::Buffers;
+use crate::planted_twice::Twice;
 use crate::questions::{idle_cycles, Idle};
 use crate::weights::{least_weights, weighted};
 use planner::calls::PlanNumbers;
@@ -133,6 +134,8 @@ pub fn refused(
         (Fault::Write, 2..=11) => *buffers.potentials.last_mut().expect("a long buffer") = 0,
         (Fault::Leave, 12..=14) => *buffers.potentials.last_mut().expect("a long buffer") = 7,
         (Fault::Short, 1) => return 2,
+        (Fault::Twice(Twice::Plan), 17) => return accept(numbers),
+        (Fault::Twice(Twice::Clear), 17) => return refuse(17, buffers, numbers),
         _ => {}
     }
     refusal

@@ -1,4 +1,7 @@
-//! A sheet, and its reading: questions 2 to 11 of the specification.
+//! A sheet, and its reading: questions 2 to 11 and 17 of the specification.
+
+use crate::fields::{Field, EDGE_BITS, LOCATION_BITS};
+use std::collections::HashSet;
 
 #[derive(Clone, Default)]
 pub struct Location {
@@ -7,7 +10,7 @@ pub struct Location {
     pub upper: [u8; 3],
 }
 
-#[derive(Clone, Default)]
+#[derive(Clone, Default, PartialEq)]
 pub struct Edge {
     pub source: usize,
     pub target: usize,
@@ -24,49 +27,6 @@ pub struct Sheet {
     pub locations: Vec<Location>,
     pub edges: Vec<Edge>,
 }
-
-#[derive(Clone, Copy, PartialEq)]
-pub enum Field {
-    Cost,
-    Reward,
-    Mask,
-    Upper,
-    Lower,
-}
-
-impl Field {
-    pub fn width(self) -> usize {
-        match self {
-            Field::Cost | Field::Reward => 2,
-            _ => 1,
-        }
-    }
-
-    fn admits(self, value: i64, clocks: usize) -> bool {
-        match self {
-            Field::Cost => value != 0 && (-10_000..=10_000).contains(&value),
-            Field::Reward => (1..=10_000).contains(&value),
-            Field::Mask => (1..1 << clocks).contains(&value),
-            Field::Upper => (0..=25).contains(&value),
-            Field::Lower => (1..=25).contains(&value),
-        }
-    }
-}
-
-/// The field of each bit of a map, for as many clocks as the format has.
-pub const LOCATION_BITS: [Field; 5] =
-    [Field::Cost, Field::Reward, Field::Upper, Field::Upper, Field::Upper];
-pub const EDGE_BITS: [Field; 9] = [
-    Field::Cost,
-    Field::Reward,
-    Field::Mask,
-    Field::Lower,
-    Field::Lower,
-    Field::Lower,
-    Field::Upper,
-    Field::Upper,
-    Field::Upper,
-];
 
 struct Reader<'a> {
     rest: &'a [u8],
@@ -158,8 +118,15 @@ impl<'a> Reader<'a> {
     }
 }
 
-/// The sheet, or the number of the first of questions 2 to 11 answered no.
-pub fn read(bytes: &[u8]) -> Result<Sheet, u8> {
+impl Sheet {
+    pub fn start_admits_zero(&self) -> bool {
+        !self.locations[0].upper[..self.clocks].contains(&0)
+    }
+}
+
+/// The sheet with the bytes of each edge record, or the number of the first of questions 2 to 10
+/// answered no.
+pub fn read_records(bytes: &[u8]) -> Result<(Sheet, Vec<&[u8]>), u8> {
     if bytes.len() < 4 || bytes.len() > 580 {
         return Err(2);
     }
@@ -172,16 +139,29 @@ pub fn read(bytes: &[u8]) -> Result<Sheet, u8> {
     }
     let mut reader = Reader { rest: &bytes[4..], clocks };
     let mut sheet = Sheet { clocks, ..Sheet::default() };
+    let mut records = Vec::new();
     for _ in 0..locations {
         sheet.locations.push(reader.location()?);
     }
     for _ in 0..edges {
+        let before = reader.rest;
         sheet.edges.push(reader.edge(locations)?);
+        records.push(&before[..before.len() - reader.rest.len()]);
     }
     if !reader.rest.is_empty() {
         return Err(10);
     }
-    if sheet.locations[0].upper[..clocks].contains(&0) {
+    Ok((sheet, records))
+}
+
+/// The sheet, or the number of the first of questions 2 to 10, 17 and 11 answered no.
+pub fn read(bytes: &[u8]) -> Result<Sheet, u8> {
+    let (sheet, records) = read_records(bytes)?;
+    let different: HashSet<&[u8]> = records.iter().copied().collect();
+    if different.len() < records.len() {
+        return Err(17);
+    }
+    if !sheet.start_admits_zero() {
         return Err(11);
     }
     Ok(sheet)

@@ -1,19 +1,30 @@
 //! Thousands of random sheets through the library and through the implementation here.
 
+use crate::alike::{count_alike, count_but_for_17, count_fault_beside, promised};
 use crate::arguments::Arguments;
 use crate::coverage::{count_accepted, count_refused, PROMISED, SHEETS};
-use crate::expected::{expect, Expected};
+use crate::expected::{expect, refusal_but_for_17, Expected};
 use crate::fault::Planner;
 use crate::hexadecimal;
 use crate::judge_check::judge_check;
 use crate::judge_plan::{judge_plan, Verdict};
 use crate::judge_step::judge_steps;
-use crate::kinds::generate;
+use crate::kinds::{generate, TWICE_AND_FAULT};
 use crate::random::Random;
+use crate::sheet::read_records;
 use crate::tally::Tally;
 
-/// Judges the check, the plan and single steps of one sheet.
-pub fn judge(planner: &Planner, bytes: &[u8], seed: u64, tally: &mut Tally) -> Verdict<()> {
+fn count_edges(tally: &mut Tally, bytes: &[u8], expected: &Expected) {
+    if let Ok((sheet, records)) = read_records(bytes) {
+        count_alike(tally, &records);
+        if expected.refusal == 17 {
+            count_but_for_17(tally, refusal_but_for_17(&sheet));
+        }
+    }
+}
+
+/// Judges the check, the plan and single steps of one sheet. The refusal of its plan.
+fn judge(planner: &Planner, bytes: &[u8], seed: u64, tally: &mut Tally) -> Verdict<u8> {
     let random = &mut Random::new(!seed);
     let expected = expect(bytes);
     judge_check(planner, bytes, &expected, random, tally)?;
@@ -33,7 +44,8 @@ pub fn judge(planner: &Planner, bytes: &[u8], seed: u64, tally: &mut Tally) -> V
         }
         _ => count_refused(tally, &expected),
     }
-    Ok(())
+    count_edges(tally, bytes, &expected);
+    Ok(expected.refusal)
 }
 
 pub fn run(arguments: &Arguments) -> Verdict<()> {
@@ -44,15 +56,19 @@ pub fn run(arguments: &Arguments) -> Verdict<()> {
     for seed in arguments.seed..arguments.seed + count {
         let (kind, bytes) = generate(seed);
         kinds.count(format!("kinds: {kind}"));
-        judge(&planner, &bytes, seed, &mut tally).map_err(|message| {
+        let refusal = judge(&planner, &bytes, seed, &mut tally).map_err(|message| {
             format!("seed {seed} ({kind}): {message}\nsheet {}", hexadecimal::write(&bytes))
         })?;
+        if kind == TWICE_AND_FAULT {
+            count_fault_beside(&mut tally, refusal);
+        }
     }
     let last = arguments.seed + count - 1;
     kinds.print(&format!("sheets made, seeds {} to {last}", arguments.seed));
     tally.print("cases compared");
     if arguments.complete {
         tally.keeps(&PROMISED)?;
+        tally.keeps(&promised())?;
     }
     Ok(())
 }

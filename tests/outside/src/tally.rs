@@ -46,10 +46,11 @@ impl Tally {
     }
 
     /// An error names every promised kind that had too few cases.
-    pub fn keeps(&self, promised: &[(&str, u64)]) -> Result<(), String> {
-        let few = promised.iter().filter_map(|&(kind, least)| {
+    pub fn keeps<K: AsRef<str>>(&self, promised: &[(K, u64)]) -> Result<(), String> {
+        let few = promised.iter().filter_map(|(kind, least)| {
+            let kind = kind.as_ref();
             let count = self.counts.get(kind).copied().unwrap_or(0);
-            (count < least).then(|| format!("{kind}: {count} cases, promised {least}"))
+            (count < *least).then(|| format!("{kind}: {count} cases, promised {least}"))
         });
         let few: Vec<String> = few.collect();
         if few.is_empty() {

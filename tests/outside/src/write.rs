@@ -1,6 +1,8 @@
 //! Writing a sheet, with the places of its records and fields.
 
-use crate::sheet::{Edge, Field, Location, Sheet, EDGE_BITS, LOCATION_BITS};
+use crate::fields::{Field, EDGE_BITS, LOCATION_BITS};
+use crate::sheet::{Edge, Location, Sheet};
+use std::ops::Range;
 
 #[derive(Default)]
 pub struct Written {
@@ -35,6 +37,11 @@ fn map_of(values: &[Option<i64>]) -> u16 {
 }
 
 impl Written {
+    /// The bytes of the record at a place, counted from the first location.
+    pub fn record(&self, place: usize) -> Range<usize> {
+        self.records[place]..self.records.get(place + 1).copied().unwrap_or(self.bytes.len())
+    }
+
     fn fields(&mut self, values: &[Option<i64>], bits: &[Field]) {
         for (value, &field) in values.iter().zip(bits) {
             if let Some(value) = value {

@@ -1,22 +1,9 @@
-//! From bytes to a sheet, by questions 2 to 11.
+//! From bytes to a sheet, by questions 2 to 11 and 17.
 
 use crate::limits;
+use crate::pairs::equal_pair;
+use crate::refusal::Refusal;
 use crate::sheet::{Bytes, Edge, Location, Sheet};
-
-/// The first question that is answered no, and at which byte.
-#[derive(Debug, PartialEq, Eq)]
-pub struct Refusal {
-    pub question: u8,
-    pub at: usize,
-    pub what: String,
-    pub expected: String,
-}
-
-impl std::fmt::Display for Refusal {
-    fn fmt(&self, f: &mut std::fmt::Formatter) -> std::fmt::Result {
-        write!(f, "question {}, byte {}: {}; expected {}", self.question, self.at, self.what, self.expected)
-    }
-}
 
 struct Reader<'a> {
     bytes: &'a [u8],
@@ -161,6 +148,17 @@ fn head(reader: &mut Reader) -> Result<(usize, usize, usize), Refusal> {
     Ok((found[0], found[1], found[2]))
 }
 
+/// Question 17; of each edge the range of its bytes.
+fn entered_once(reader: &Reader, edges: &[std::ops::Range<usize>]) -> Result<(), Refusal> {
+    let records: Vec<_> = edges.iter().map(|edge| &reader.bytes[edge.clone()]).collect();
+    match equal_pair(&records) {
+        Some((first, second)) => {
+            reader.refuse(17, edges[second].start, format!("edge {second} is equal to edge {first} in every byte"), "each edge once")
+        }
+        None => Ok(()),
+    }
+}
+
 /// Question 11.
 fn admits_zero(reader: &Reader, first: &Location) -> Result<(), Refusal> {
     let bounds = 5 + 2 * (usize::from(first.cost != 0) + usize::from(first.reward != 0));
@@ -179,14 +177,18 @@ pub fn decode(bytes: &[u8]) -> Result<Sheet, Refusal> {
     for i in 0..locations {
         sheet.locations.push(reader.location(i)?);
     }
+    let mut places = Vec::new();
     for i in 0..edges {
+        let start = reader.at;
         sheet.edges.push(reader.edge(i, locations)?);
+        places.push(start..reader.at);
     }
     reader.record.clear();
     let left = bytes.len() - reader.at;
     if left > 0 {
         return reader.refuse(10, reader.at, format!("bytes after the last record: {left}"), "0");
     }
+    entered_once(&reader, &places)?;
     admits_zero(&reader, &sheet.locations[0])?;
     Ok(sheet)
 }

@@ -26,17 +26,19 @@ fn put_location(out: &mut Vec<u8>, location: &Location) {
     out.extend(location.upper.iter().flatten());
 }
 
-fn put_edge(out: &mut Vec<u8>, edge: &Edge) {
+/// The bytes of an edge's record.
+pub fn edge_record(edge: &Edge) -> Vec<u8> {
     let resets = u16::from(edge.reset != 0) << 2;
     let map = price_bits(edge.cost, edge.reward) | resets | clock_bits(&edge.lower, 3) | clock_bits(&edge.upper, 6);
-    out.extend(map.to_le_bytes());
+    let mut out = map.to_le_bytes().to_vec();
     out.extend([edge.source as u8, edge.target as u8]);
-    put_prices(out, edge.cost, edge.reward);
+    put_prices(&mut out, edge.cost, edge.reward);
     if edge.reset != 0 {
         out.push(edge.reset);
     }
     out.extend(edge.lower.iter().flatten());
     out.extend(edge.upper.iter().flatten());
+    out
 }
 
 pub fn encode(sheet: &Sheet) -> Vec<u8> {
@@ -45,7 +47,7 @@ pub fn encode(sheet: &Sheet) -> Vec<u8> {
         put_location(&mut out, location);
     }
     for edge in &sheet.edges {
-        put_edge(&mut out, edge);
+        out.extend(edge_record(edge));
     }
     out
 }

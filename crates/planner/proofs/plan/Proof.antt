@@ -1,9 +1,10 @@
 -- The questions, and the clearing on 12 to 14.
-use mathlib.Core.Path.{_≡_, _∙_}
-use Prim.Native.Nat.{_≤_, _<_}
+use mathlib.Core.Path.{_∙_}
+use Prim.Native.Nat.{_≤_}
 use native.Mathlib.Omega.{arith}
 use denote.Ref.{now}
-use Rattle.contract.specs.Plan.{Buffers, SameLengths}
+use Rattle.contract.specs.Plan.{Buffers, SameLengths, Planned}
+use Rattle.contract.proofs.Causes.{explored-numbers, numbers-explored}
 use Rattle.planner.specs.ContractTerms.{lentBuffers, answerOf}
 use Rattle.planner.specs.PrivatePromises.{PlannedButForClearing}
 use Rattle.planner.proofs.GraphLaws.{all-zero, refused-planned}
@@ -28,6 +29,19 @@ same c = let k = c .ask .kept .1 in record { nodes = k .0; potentials = k .1 .0;
 settled : (c : tie.After-ask) → PlannedButForClearing (now (S c .args .sheet)) (before c) (after c) (answerOf (c .ask .result))
 settled c = c .ask .ensures
 
+-- another number than 12 to 14: the buffers are left as the questions leave them
+left-as-asked : (c : tie.After-ask) → (12 ≤ c .ask .result .refusal → c .ask .result .refusal ≤ 14 → ⊥)
+    → Planned (now (S c .args .sheet)) (before c) (after c) (answerOf (c .ask .result))
+left-as-asked c other = let s = settled c in record {
+  judged = s .judged;
+  numbers = s .numbers;
+  kept = s .kept;
+  cleared = λ passed some. let r = explored-numbers passed some (s .judged) in absurd (other (r .0) (r .1));
+  lengths = same c;
+  accepted = λ z. s .accepted z .accepted z;
+  no-loop-below = λ z. s .accepted z .no-loop-below z;
+}
+
 ask-requires : tie.Need-ask-requires
 ask-requires c κs = search needs
 
@@ -48,14 +62,10 @@ returns c =
     let f = c .before .before .before .before .before in
     let w = f .refuse .ensures in
     let p = f .before .before .before .before .before .before .before .before .before .before .before in
-    let high = f .before .before .before .before .if1 .taken in
     let k = f .refuse .kept .1 in
-    let r = p .ask .result .refusal in
-    let l = f .refuse .last .1 in
-    let left = lentBuffers (l .0) (l .1 .0) (l .1 .1 .0) in
-    let kept : 0 < r → r ≤ 11 → left ≡ before p = λ _ low. absurd (omega (arith, high)) in
-    refused-planned (w .0) (settled p .judged) kept (all-zero (same p) (w .1 .0) (w .1 .1 .0) (w .1 .1 .1))
-    (record { nodes = k .0 ∙ same p .nodes; potentials = k .1 .0 ∙ same p .potentials; steps = k .1 .1 .0 ∙ same p .steps }) (omega (arith, high))
+    let j = settled p .judged in
+    refused-planned (w .0) j (numbers-explored (omega arith) (omega arith) j) (all-zero (same p) (w .1 .0) (w .1 .1 .0) (w .1 .1 .1))
+    (record { nodes = k .0 ∙ same p .nodes; potentials = k .1 .0 ∙ same p .potentials; steps = k .1 .1 .0 ∙ same p .steps }) (omega arith)
 
 same-length-4 : tie.Need-same-length-4
 same-length-4 c = search needs
@@ -68,17 +78,22 @@ same-length-6 c = search needs
 
 returns-2 : tie.Need-returns-2
 returns-2 c =
+    let p = c .before .before .before .before .before .before in
+    left-as-asked p (λ low high. omega arith)
+
+same-length-7 : tie.Need-same-length-7
+same-length-7 c = search needs
+
+same-length-8 : tie.Need-same-length-8
+same-length-8 c = search needs
+
+same-length-9 : tie.Need-same-length-9
+same-length-9 c = search needs
+
+returns-3 : tie.Need-returns-3
+returns-3 c =
     let p = c .before .before .before .before .before .before .before in
-    let s = settled p in
-    record {
-      judged = s .judged;
-      numbers = s .numbers;
-      kept = s .kept;
-      cleared = λ high. absurd (omega (arith, c .if1 .left));
-      lengths = same p;
-      accepted = λ z. s .accepted z .accepted z;
-      no-loop-below = λ z. s .accepted z .no-loop-below z;
-    }
+    left-as-asked p (λ low high. omega arith)
 
 pub plan-spec : {M : Type 1} → statement M
 plan-spec =
@@ -93,4 +108,8 @@ plan-spec =
     same-length-4
     same-length-5
     same-length-6
-    returns-2)
+    returns-2
+    same-length-7
+    same-length-8
+    same-length-9
+    returns-3)

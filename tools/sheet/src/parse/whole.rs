@@ -1,6 +1,8 @@
 //! What can be asked only when the whole description is read.
 
 use super::{Mistake, Parser};
+use crate::encode::edge_record;
+use crate::pairs::equal_pair;
 use crate::sheet::Sheet;
 use crate::tokens::{fault, Fault};
 
@@ -14,6 +16,7 @@ impl Parser {
         for i in 0..self.sheet.edges.len() {
             self.joined(i).map_err(|fault| Mistake { line: self.edge_lines[i], fault })?;
         }
+        self.entered_once()?;
         for j in 0..self.sheet.clocks.len() {
             self.started(j).map_err(|fault| Mistake { line: self.first_bounds[j], fault })?;
         }
@@ -53,6 +56,18 @@ impl Parser {
         self.sheet.edges[i].source = source;
         self.sheet.edges[i].target = target;
         Ok(())
+    }
+
+    /// The names of edges do not stand in the bytes, and make no difference.
+    fn entered_once(&self) -> Result<(), Mistake> {
+        let records: Vec<_> = self.sheet.edges.iter().map(edge_record).collect();
+        let Some((first, second)) = equal_pair(&records) else { return Ok(()) };
+        let [first_name, second_name] = [first, second].map(|i| &self.sheet.edges[i].name);
+        let fault = fault(
+            format!("edge '{second_name}' is the same as edge '{first_name}' on line {}", self.edge_lines[first]),
+            "another source, target, guard, reset, cost or reward",
+        );
+        fault.map_err(|fault| Mistake { line: self.edge_lines[second], fault })
     }
 
     fn started(&self, j: usize) -> Result<(), Fault> {

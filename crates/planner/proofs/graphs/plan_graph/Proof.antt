@@ -91,14 +91,14 @@ refused-requires-3 c κs = search needs
 returns : tie.Need-returns
 returns c =
     let l = c .before .before .before .before .before in
-    λ o. settled-refused {after = lent-to (S l)} 13 (due-number (c .refused .ensures) (omega arith)) (omega arith) (no-earning-cycle (o .bytes) (o .before) (o .long) (o .checked) _ (o .explored)
+    λ o. settled-refused {after = lent-to (S l)} 13 (due-number (c .refused .ensures) (omega arith)) (omega arith) (o .long, o .checked) (no-earning-cycle (o .bytes) (o .before) (o .long) (o .checked) _ (o .explored)
     (none-earns (S l .pre .0) (D l) (cycle l) (l .least-ratio .result) (judged l) (c .before .enum-told .given .1)))
 
 returns-2 : tie.Need-returns-2
 returns-2 c =
     let l = c .before .before .before .before .before in
     let w = idle-gain (S l .pre .0) (D l) (cycle l) (l .least-ratio .result) (judged l) (c .before .enum-told2 .given .1) in
-    λ o. settled-refused {after = lent-to (S l)} 14 (due-number (c .refused2 .ensures) (omega arith)) (omega arith) (idle-cycle-gains (o .bytes) (o .before) (o .long) (o .checked) _ (o .explored)
+    λ o. settled-refused {after = lent-to (S l)} 14 (due-number (c .refused2 .ensures) (omega arith)) (omega arith) (o .long, o .checked) (idle-cycle-gains (o .bytes) (o .before) (o .long) (o .checked) _ (o .explored)
     (w .0) (w .1))
 
 same-length : tie.Need-same-length

@@ -189,7 +189,7 @@ same-length c = same (E (c .before .before .before)) .nodes
 returns : tie.Need-returns
 returns c =
     let x = E (c .before .before .before) in
-    λ o. settled-refused {after = after x} 12 (c .refused .ensures) (omega arith) (too-many-nodes (o .bytes) (before x) (S x .pre .1) (o .checked) (B x .node)
+    λ o. settled-refused {after = after x} 12 (c .refused .ensures) (omega arith) (S x .pre .1, o .checked) (too-many-nodes (o .bytes) (before x) (S x .pre .1) (o .checked) (B x .node)
     (overfull (S x .args .read) (now (S x .args .nodes)) (B x) (x .explore .result) (told x) (c .before .enum-told .given .1) o))
 
 same-length-2 : tie.Need-same-length-2

@@ -1,14 +1,15 @@
 -- Every record before the one in hand has passed.
 use mathlib.Core.Path.{_≡_, refl, sym, ap, ap₂, _∙_}
 use Prim.Native.Nat.{ℕ, _+_, _-_, _≤_}
+use lib.ListN.{length}
 use Rattle.sheet.specs.Records.{recordAt, recordLength, locationAt}
-use Rattle.sheet.specs.Questions.{firstOf, locationCode, edgeCode}
+use Rattle.sheet.specs.Questions.{firstOf, locationCode, edgeCode, distinctCode}
 use borrow.Author.Needs.{needs}
 use native.Mathlib.Omega.{arith}
 use Rattle.sheet.specs.declared.fields.Kind.the-variants.{LocationRecord, EdgeRecord}
 use Rattle.sheet.proofs.RecordLaws.{at-le, at-more, length-le}
 use Rattle.sheet.proofs.QuestionLaws.{first-none, first-more}
-use Rattle.sheet.proofs.CodeLaws.{ofLocation, ofEdge, location-refused, edge-refused, bytes-left, all-used}
+use Rattle.sheet.proofs.CodeLaws.{ofLocation, ofEdge, location-refused, edge-refused, bytes-left, entered-twice, all-distinct}
 use Rattle.sheet.proofs.questions.records_code.Statement.{statement}
 use Rattle.sheet.proofs.questions.records_code.Tie as tie
 
@@ -19,11 +20,12 @@ abbrev μ-loop : tie.MeasureT-loop
 μ-loop s clocks locations edges at₀ i₀ at i = locations - i
 
 abbrev Inv-loop2 : tie.InvT-loop2
-Inv-loop2 s clocks locations edges at₀ e₀ at e = (e ≤ edges) × ((at ≡ recordAt EdgeRecord s (locationAt s locations) e)
+Inv-loop2 s clocks locations edges at₀ from e₀ at e = ((e ≤ edges) × (from ≡ locationAt s locations))
+    × ((at ≡ recordAt EdgeRecord s (locationAt s locations) e)
     × ((firstOf locations (ofLocation clocks locations edges s) ≡ 0) × (firstOf e (ofEdge clocks locations edges s) ≡ 0)))
 
 abbrev μ-loop2 : tie.MeasureT-loop2
-μ-loop2 s clocks locations edges at₀ e₀ at e = edges - e
+μ-loop2 s clocks locations edges at₀ from e₀ at e = edges - e
 
 abbrev Inv-records : tie.InvT-records
 Inv-records s clocks locations edges at₀ at = at ≡ 4
@@ -76,7 +78,8 @@ loop2-holds c =
     let l = c .before .loop in
     let e : l .i ≡ a .locations = omega arith in
     let passed = ap (λ (n : ℕ). firstOf n (ofLocation (a .clocks) (a .locations) (a .edges) (a .s .now))) (sym e) ∙ l .inv .1 .1 in
-    (search needs, (l .inv .1 .0 ∙ ap (recordAt LocationRecord (a .s .now) 4) e, (passed, first-none (ofEdge (a .clocks) (a .locations) (a .edges) (a .s .now)))))
+    let from = l .inv .1 .0 ∙ ap (recordAt LocationRecord (a .s .now) 4) e in
+    ((search needs, from), (from, (passed, first-none (ofEdge (a .clocks) (a .locations) (a .edges) (a .s .now)))))
 
 edge-code-requires :
     tie.Need-edge-code-requires Inv-loop μ-loop Inv-loop2 μ-loop2 Inv-records μ-records
@@ -123,6 +126,31 @@ loop2-again c =
       ),
     )
 
+-- every record has passed, and every byte is used
+all-passed : (c : tie.Else3 Inv-loop μ-loop Inv-loop2 μ-loop2 Inv-records μ-records) → let a = c .before .before .before .before .before .before .before .args in
+    (firstOf (a .locations) (ofLocation (a .clocks) (a .locations) (a .edges) (a .s .now)) ≡ 0)
+    × ((firstOf (a .edges) (ofEdge (a .clocks) (a .locations) (a .edges) (a .s .now)) ≡ 0)
+    × (recordAt EdgeRecord (a .s .now) (locationAt (a .s .now) (a .locations)) (a .edges) ≡ length (a .s .now)))
+all-passed c =
+    let a = c .before .before .before .before .before .before .before .args in
+    let l = c .before .before .loop2 in
+    let e : a .edges ≡ l .e = omega arith in (
+      l .inv .1 .1 .0,
+      (
+        ap (λ (n : ℕ). firstOf n (ofEdge (a .clocks) (a .locations) (a .edges) (a .s .now))) e ∙ l .inv .1 .1 .1,
+        ap (recordAt EdgeRecord (a .s .now) (locationAt (a .s .now) (a .locations))) e ∙ sym (l .inv .1 .0) ∙ c .if3 .left,
+      ),
+    )
+
+distinct-code-requires :
+    tie.Need-distinct-code-requires Inv-loop μ-loop Inv-loop2 μ-loop2 Inv-records μ-records
+distinct-code-requires c κs =
+    let a = c .before .before .before .before .before .before .before .args in
+    let from = c .before .before .loop2 .inv .0 .1 in (
+      omega (arith, from, at-le LocationRecord (a .s .now) 4 (a .locations)),
+      omega (arith, ap (λ (f : ℕ). recordAt EdgeRecord (a .s .now) f (a .edges)) from, all-passed c .1 .1),
+    )
+
 start-code-requires :
     tie.Need-start-code-requires Inv-loop μ-loop Inv-loop2 μ-loop2 Inv-records μ-records
 start-code-requires c κs = search needs
@@ -149,14 +177,26 @@ returns-3 c =
     bytes-left (a .clocks) (a .locations) (a .edges) (a .s .now) (l .inv .1 .1 .0) (ap (λ (n : ℕ). firstOf n (ofEdge (a .clocks) (a .locations) (a .edges) (a .s .now))) e ∙ l .inv .1 .1 .1)
     (λ q. c .if3 .taken (l .inv .1 .0 ∙ ap (recordAt EdgeRecord (a .s .now) (locationAt (a .s .now) (a .locations))) (sym e) ∙ q))
 
+-- question 17 was asked of the records behind the locations
+was-asked : (c : tie.After-distinct-code Inv-loop μ-loop Inv-loop2 μ-loop2 Inv-records μ-records) → let a = c .before .before .before .before .before .before .before .before .args in
+    c .distinct-code .result ≡ distinctCode (a .edges) (a .s .now) (locationAt (a .s .now) (a .locations))
+was-asked c =
+    let a = c .before .before .before .before .before .before .before .before .args in
+    c .distinct-code .ensures ∙ ap (distinctCode (a .edges) (a .s .now)) (c .before .before .before .loop2 .inv .0 .1)
+
 returns-4 : tie.Need-returns-4 Inv-loop μ-loop Inv-loop2 μ-loop2 Inv-records μ-records
 returns-4 c =
-    let a = c .before .before .before .before .before .before .before .before .args in
-    let l = c .before .before .before .loop2 in
-    let e : a .edges ≡ l .e = omega arith in
-    c .start-code .ensures ∙ all-used (a .clocks) (a .locations) (a .edges) (a .s .now) (l .inv .1 .1 .0)
-    (ap (λ (n : ℕ). firstOf n (ofEdge (a .clocks) (a .locations) (a .edges) (a .s .now))) e ∙ l .inv .1 .1 .1)
-    (ap (recordAt EdgeRecord (a .s .now) (locationAt (a .s .now) (a .locations))) e ∙ sym (l .inv .1 .0) ∙ c .before .if3 .left)
+    let p = was-asked (c .before) in
+    let w = all-passed (c .before .before) in
+    let a = c .before .before .before .before .before .before .before .before .before .args in
+    p ∙ entered-twice (a .clocks) (a .locations) (a .edges) (a .s .now) (w .0) (w .1 .0) (w .1 .1) (λ z. c .if4 .taken (p ∙ z))
+
+returns-5 : tie.Need-returns-5 Inv-loop μ-loop Inv-loop2 μ-loop2 Inv-records μ-records
+returns-5 c =
+    let w = all-passed (c .before .before .before) in
+    let a = c .before .before .before .before .before .before .before .before .before .before .args in
+    c .start-code .ensures
+    ∙ all-distinct (a .clocks) (a .locations) (a .edges) (a .s .now) (w .0) (w .1 .0) (w .1 .1) (sym (was-asked (c .before .before)) ∙ c .before .if4 .left)
 
 pub records-code-spec : {M : Type 1} → statement M
 records-code-spec =
@@ -183,8 +223,10 @@ records-code-spec =
     add-e
     loop2-less
     loop2-again
+    distinct-code-requires
     start-code-requires
     returns
     returns-2
     returns-3
-    returns-4)
+    returns-4
+    returns-5)
