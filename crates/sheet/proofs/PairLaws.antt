@@ -53,13 +53,14 @@ module _ (s : List ℕ) (x y : ℕ) where
   pub bytes-compared : (n : ℕ) (r : Bool) → n ≡ recordLength EdgeRecord s y → r ≡ each n sameAt → r ≡ sameRecord s x y
   bytes-compared n r e f = f ∙ ap (λ (m : ℕ). each m sameAt) e ∙ same-by-bytes
 
--- ---- the records from a begins on
+-- ---- the records from a place on
 
 module _ (s : List ℕ) (from : ℕ) where
+  -- where record i begins
   abbrev pub begins : ℕ → ℕ
   begins i = recordAt EdgeRecord s from i
 
-  -- the first j of them, and blank ones behind them
+  -- the keys of the first j, and blank ones behind them
   abbrev pub keys : ℕ → List Key
   keys j = filled (λ i. keyOf s (begins i)) blankKey 32 j
 
