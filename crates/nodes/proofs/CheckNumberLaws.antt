@@ -26,68 +26,60 @@ passes t (x ∷ l) h v o = by-bool (eqb v x)
     (λ e. ap t (eqb-true v x e) ∙ &&-left (t x) (every (λ j. t) l) h)
     (λ e. passes t l (&&-right (t x) (every (λ j. t) l) h) v (ap (λ (b : Bool). b || occurs v l) (sym e) ∙ o))
 
--- the numbers that the other questions than 17 answer
-others : List ℕ
-others = 0 ∷ 2 ∷ 3 ∷ 4 ∷ 5 ∷ 6 ∷ 7 ∷ 8 ∷ 9 ∷ 10 ∷ 11 ∷ []
-
--- a test that these pass, and what question 17 answers, is passed by what the check answers
-module _ (t : ℕ → Bool) (all : every (λ j. t) others ≡ true) where
+-- a test that each number but 17 passes, and what question 17 answers, is passed by what the check answers
+module _ (t : ℕ → Bool) (all : every (λ j x. eqb x 17 || t x) checkNumbers ≡ true) where
   abbrev Passes : ℕ → Type 0
   Passes r = t r ≡ true
 
-  ask-passes : (n : ℕ) (b : Bool) (r : ℕ) → Passes n → Passes r → Passes (ask n b r)
-  ask-passes n true r f g = g
-  ask-passes n false r f g = f
-
-  asked : (n : ℕ) (b : Bool) (r : ℕ) → occurs n others ≡ true → Passes r → Passes (ask n b r)
-  asked n b r o = ask-passes n b r (passes t others all n o)
+  asked : (n : ℕ) (b : Bool) (r : ℕ) → Passes n → Passes r → Passes (ask n b r)
+  asked n true r f g = g
+  asked n false r f g = f
 
   either : (a b : ℕ) → Passes a → Passes b → Passes (orElse a b)
-  either a b = ask-passes a (eqb a 0) b
+  either a b = asked a (eqb a 0) b
 
-  none-no : Passes 0
-  unfolding others
-  none-no = passes t others all 0 refl
+  number : (n : ℕ) → occurs n checkNumbers ≡ true → eqb n 17 || t n ≡ true
+  number = passes (λ x. eqb x 17 || t x) checkNumbers all
 
   first : (n : ℕ) (f : ℕ → ℕ) → ((i : ℕ) → Passes (f i)) → Passes (firstOf n f)
   unfolding firstOf
-  first zero f k = none-no
+  first zero f k = number 0 refl
   first (suc n) f k = either (firstOf n f) (f n) (first n f k) (k n)
 
   map-passes : (kind : Kind) (k : ℕ) (s : List ℕ) (at : ℕ) → Passes (mapCode kind k s at)
-  unfolding others mapCode
-  map-passes kind k s at = asked 5 (leb (at + mapBytes kind) (length s)) _ refl
-      (asked 6 (each 16 (bitGood kind k (mapOf kind s at))) _ refl (asked 5 (leb (at + recordLength kind s at) (length s)) 0 refl none-no))
+  unfolding mapCode
+  map-passes kind k s at = asked 5 (leb (at + mapBytes kind) (length s)) _ (number 5 refl)
+      (asked 6 (each 16 (bitGood kind k (mapOf kind s at))) _ (number 6 refl) (asked 5 (leb (at + recordLength kind s at) (length s)) 0 (number 5 refl) (number 0 refl)))
 
   fields-pass : (kind : Kind) (k : ℕ) (s : List ℕ) (at : ℕ) → Passes (fieldsCode kind k s at)
-  unfolding others fieldsCode
-  fields-pass kind k s at = asked 8 (each 16 (fieldGood kind k s at)) 0 refl none-no
+  unfolding fieldsCode
+  fields-pass kind k s at = asked 8 (each 16 (fieldGood kind k s at)) 0 (number 8 refl) (number 0 refl)
 
   location-passes : (k : ℕ) (s : List ℕ) (at : ℕ) → Passes (locationCode k s at)
-  unfolding others locationCode boundsCode
+  unfolding locationCode boundsCode
   location-passes k s at = either (mapCode LocationRecord k s at) _ (map-passes LocationRecord k s at)
       (either (boundsCode k s at) (fieldsCode LocationRecord k s at)
-      (asked 7 (each k (λ j. stands (mapOf LocationRecord s at) (firstEdition .bound + j))) 0 refl none-no) (fields-pass LocationRecord k s at))
+      (asked 7 (each k (λ j. stands (mapOf LocationRecord s at) (firstEdition .bound + j))) 0 (number 7 refl) (number 0 refl)) (fields-pass LocationRecord k s at))
 
   edge-passes : (k l : ℕ) (s : List ℕ) (at : ℕ) → Passes (edgeCode k l s at)
-  unfolding others edgeCode endsCode
+  unfolding edgeCode endsCode
   edge-passes k l s at = either (mapCode EdgeRecord k s at) _ (map-passes EdgeRecord k s at)
       (either (fieldsCode EdgeRecord k s at) (endsCode l s at) (fields-pass EdgeRecord k s at)
-      (asked 9 (ltb (byteAt s (at + 2)) l && ltb (byteAt s (at + 3)) l) 0 refl none-no))
+      (asked 9 (ltb (byteAt s (at + 2)) l && ltb (byteAt s (at + 3)) l) 0 (number 9 refl) (number 0 refl)))
 
   records-pass : (k l e : ℕ) (s : List ℕ) → Passes (distinctCode e s (locationAt s l)) → Passes (recordsCode k l e s)
-  unfolding others recordsCode restCode startCode
+  unfolding recordsCode restCode startCode
   records-pass k l e s d = either (firstOf l (λ i. locationCode k s (locationAt s i))) _ (first l _ (λ i. location-passes k s (locationAt s i)))
       (either (firstOf e (λ i. edgeCode k l s (recordAt EdgeRecord s (locationAt s l) i))) _
       (first e _ (λ i. edge-passes k l s (recordAt EdgeRecord s (locationAt s l) i)))
-      (asked 10 (eqb (recordAt EdgeRecord s (locationAt s l) e) (length s)) _ refl
-      (either (distinctCode e s (locationAt s l)) (startCode k s) d (asked 11 (each k (λ j. ltb 0 (boundAt s 4 j))) 0 refl none-no))))
+      (asked 10 (eqb (recordAt EdgeRecord s (locationAt s l) e) (length s)) _ (number 10 refl)
+      (either (distinctCode e s (locationAt s l)) (startCode k s) d (asked 11 (each k (λ j. ltb 0 (boundAt s 4 j))) 0 (number 11 refl) (number 0 refl)))))
 
   check-passes : (s : List ℕ) → Passes (distinctCode (edgesIn s) s (locationAt s (locationsIn s))) → Passes (checkOf s)
-  unfolding others checkOf
-  check-passes s d = asked 2 (isWithin (length s) 4 580) _ refl (asked 3 (eqb (byteAt s 0) 1) _ refl
+  unfolding checkOf
+  check-passes s d = asked 2 (isWithin (length s) 4 580) _ (number 2 refl) (asked 3 (eqb (byteAt s 0) 1) _ (number 3 refl)
       (asked 4 (isWithin (locationsIn s) 1 12 && (isWithin (clocksIn s) 1 (firstEdition .clocks) && isWithin (edgesIn s) 0 32))
-      (recordsCode (clocksIn s) (locationsIn s) (edgesIn s) s) refl (records-pass (clocksIn s) (locationsIn s) (edgesIn s) s d)))
+      (recordsCode (clocksIn s) (locationsIn s) (edgesIn s) s) (number 4 refl) (records-pass (clocksIn s) (locationsIn s) (edgesIn s) s d)))
 
 -- question 17 answers 0 or 17
 distinct-number : (e : ℕ) (s : List ℕ) (from : ℕ) → occurs (distinctCode e s from) checkNumbers ≡ true
@@ -100,12 +92,12 @@ distinct-number e s from = by (each e (isNew s from))
 
 -- the check answers one of its own numbers
 pub check-number : (s : List ℕ) → occurs (checkOf s) checkNumbers ≡ true
-unfolding others every
+unfolding every
 check-number s = check-passes (λ r. occurs r checkNumbers) refl s (distinct-number (edgesIn s) s (locationAt s (locationsIn s)))
 
 -- and 17 only where question 17 does
 pub asked-17 : (s : List ℕ) → checkOf s ≡ 17 → distinctCode (edgesIn s) s (locationAt s (locationsIn s)) ≡ 17
-unfolding others every
+unfolding every
 asked-17 s h =
     let distinct = distinctCode (edgesIn s) s (locationAt s (locationsIn s)) in
     by-bool (eqb distinct 17) (eqb-true distinct 17)

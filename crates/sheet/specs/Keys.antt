@@ -15,15 +15,17 @@ fourAt s at = ((byteAt s at * 256 + byteAt s (at + 1)) * 256 + byteAt s (at + 2)
 abbrev pub eightAt : List ℕ → ℕ → ℕ
 eightAt s at = fourAt s at * 4294967296 + fourAt s (at + 4)
 
--- of n bytes the first eight and the last eight, or four where there are fewer
-unfoldable pub frontOf : List ℕ → ℕ → ℕ → ℕ
-frontOf s at n = cond (ltb n 8) (fourAt s at) (eightAt s at)
+-- how many bytes of n are taken at either end: eight, or four where there are fewer
+unfoldable pub sideOf : ℕ → ℕ
+sideOf n = cond (ltb n 8) 4 8
 
-unfoldable pub backOf : List ℕ → ℕ → ℕ → ℕ
-backOf s at n = cond (ltb n 8) (fourAt s (at + (n - 4))) (eightAt s (at + (n - 8)))
+-- so many of them as one number
+unfoldable pub sideAt : List ℕ → ℕ → ℕ → ℕ
+sideAt s at n = cond (ltb n 8) (fourAt s at) (eightAt s at)
 
+-- the first of an edge record's bytes, and the last
 abbrev pub keyOf : List ℕ → ℕ → Key
-keyOf s at = let n = recordLength EdgeRecord s at in record { at = at; length = n; front = frontOf s at n; back = backOf s at n }
+keyOf s at = let n = recordLength EdgeRecord s at in record { at = at; length = n; front = sideAt s at n; back = sideAt s (at + (n - sideOf n)) n }
 
 abbrev pub blankKey : Key
 blankKey = record { at = 0; length = 0; front = 0; back = 0 }

@@ -3,7 +3,7 @@ ghost use mathlib.Core.Path.{_≡_};
 ghost use Prim.Native.Nat.{_+_, _≤_, _<_};
 ghost use lib.ListN.{length};
 ghost use Rattle.sheet.specs.Records.{recordLength};
-ghost use Rattle.sheet.specs.Keys.{fourAt, eightAt, frontOf, backOf, keyOf, blankKey};
+ghost use Rattle.sheet.specs.Keys.{fourAt, eightAt, sideOf, sideAt, keyOf, blankKey};
 ghost use Rattle.sheet.specs.declared.fields.Kind.the-variants.{EdgeRecord};
 use crate::fields::Kind;
 
@@ -50,27 +50,22 @@ fn eight(s: &[u8], at: usize) -> u64
     (four(s, at) as u64) * 4294967296 + (four(s, at + 4) as u64)
 }
 
-// The first bytes of so many.
-fn front_of(s: &[u8], at: usize, count: usize) -> u64
-    requires { ⌜ (4 ≤ count) × (at + count ≤ length (now s)) ⌝ }
-    ensures { λ r. ⌜ r ≡ frontOf (now (s .entry)) at count ⌝ }
+// How many bytes of so many are taken at either end.
+fn side(count: usize) -> usize
+    ensures { λ r. ⌜ r ≡ sideOf count ⌝ }
+{
+    if count < 8 { 4 } else { 8 }
+}
+
+// The bytes from a place on that are taken of so many, as one number.
+fn side_at(s: &[u8], at: usize, count: usize) -> u64
+    requires { ⌜ at + sideOf count ≤ length (now s) ⌝ }
+    ensures { λ r. ⌜ r ≡ sideAt (now (s .entry)) at count ⌝ }
 {
     if count < 8 {
         four(s, at) as u64
     } else {
         eight(s, at)
-    }
-}
-
-// The last bytes of so many.
-fn back_of(s: &[u8], at: usize, count: usize) -> u64
-    requires { ⌜ (4 ≤ count) × (at + count ≤ length (now s)) ⌝ }
-    ensures { λ r. ⌜ r ≡ backOf (now (s .entry)) at count ⌝ }
-{
-    if count < 8 {
-        four(s, at + (count - 4)) as u64
-    } else {
-        eight(s, at + (count - 8))
     }
 }
 
@@ -80,8 +75,8 @@ pub(crate) fn key_at(s: &[u8], at: usize) -> Key
     ensures { λ r. ⌜ r ≡ keyOf (now (s .entry)) at ⌝ }
 {
     let length = crate::records::record_length(s, Kind::EdgeRecord, at);
-    let front = front_of(s, at, length);
-    let back = back_of(s, at, length);
+    let front = side_at(s, at, length);
+    let back = side_at(s, at + (length - side(length)), length);
     Key {
         at,
         length,

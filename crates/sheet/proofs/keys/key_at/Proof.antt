@@ -1,26 +1,48 @@
 -- Its parts, one by one.
+use Prim.Native.Nat.{_≤_}
 use native.Mathlib.Omega.{arith}
+use Rattle.sheet.specs.Keys.{sideOf}
 use Rattle.sheet.proofs.RecordLaws.{four-there}
+use Rattle.sheet.proofs.KeyLaws.{side-le}
 use borrow.Author.Needs.{needs}
 use Rattle.sheet.proofs.keys.key_at.Statement.{statement}
 use Rattle.sheet.proofs.keys.key_at.Tie as tie
 
+-- what is taken at an end is no more than the record
+fits : (c : tie.After-record-length) → sideOf (c .record-length .result) ≤ c .record-length .result
+fits c =
+    let a = c .before .before .args in
+    side-le (c .record-length .result) (omega (arith, c .record-length .ensures, four-there (a .s .now) (a .at)))
+
 record-length-requires : tie.Need-record-length-requires
 record-length-requires c κs = search needs
 
-front-of-requires : tie.Need-front-of-requires
-front-of-requires c κs =
-    let a = c .before .before .args in
-    omega (arith, c .record-length .ensures, four-there (a .s .now) (a .at))
+side-at-requires : tie.Need-side-at-requires
+side-at-requires c κs = omega (arith, c .record-length .ensures, fits c)
 
-back-of-requires : tie.Need-back-of-requires
-back-of-requires c κs =
-    let a = c .before .before .before .args in
-    omega (arith, c .before .record-length .ensures, four-there (a .s .now) (a .at))
+side-requires : tie.Need-side-requires
+side-requires c κs = search needs
+
+sub-side-at : tie.Need-sub-side-at
+sub-side-at c = omega (arith, c .side .ensures, fits (c .before .before))
+
+add-side-at : tie.Need-add-side-at
+add-side-at c = search needs
+
+side-at-requires-2 : tie.Need-side-at-requires-2
+side-at-requires-2 c κs = omega (arith, c .side .ensures, fits (c .before .before), c .before .before .record-length .ensures)
 
 returns : tie.Need-returns
 returns c = cc
 
 pub key-at-spec : {M : Type 1} → statement M
 key-at-spec =
-    tie.close (tie.spec record-length-requires front-of-requires back-of-requires returns)
+    tie.close
+    (tie.spec
+    record-length-requires
+    side-at-requires
+    side-requires
+    sub-side-at
+    add-side-at
+    side-at-requires-2
+    returns)
