@@ -26,10 +26,19 @@ static const uint8_t idle_gains[24] = {1, 1, 1, 2, 5, 1, 0, 5, 15, 0, 0, 0, 5, 0
 static const uint8_t edge_twice[28] = {1, 1, 1, 2, 5, 1, 0, 5, 15, 0, 0, 0, 5, 0, 2, 0, 1, 2, 15, 0, 0, 0, 5, 0, 2, 0, 1, 2};
 static const uint8_t two_edges[28] = {1, 1, 1, 2, 5, 1, 0, 5, 15, 0, 0, 0, 5, 0, 2, 0, 1, 2, 15, 0, 0, 0, 5, 0, 3, 0, 1, 2};
 
+/* Bench with clock < 2, with clock > 1, and with clock < 1, which leaves no cycle. */
+static const uint8_t strict_bound[18] = {1, 1, 1, 1, 5, 1, 0, 4, 15, 0, 0, 0, 5, 0, 2, 0, 1, 2};
+static const uint8_t strict_guard[18] = {1, 1, 1, 1, 5, 1, 0, 5, 15, 0, 0, 0, 5, 0, 2, 0, 1, 3};
+static const uint8_t strict_no_cycle[18] = {1, 1, 1, 1, 5, 1, 0, 2, 15, 0, 0, 0, 5, 0, 2, 0, 1, 2};
+/* Two locations in turn: edge 0 leaves the first after 1 unit, edge 1 the second after 2, and to wait longer costs more. */
+static const uint8_t in_turn[26] = {1, 2, 1, 2, 5, 1, 0, 5, 5, 2, 0, 7, 12, 0, 0, 1, 1, 2, 14, 0, 1, 0, 3, 0, 1, 4};
+
 static uint32_t nodes[LONGER];
 static int64_t potentials[LONGER];
 static uint16_t steps[LONGER];
 static int64_t p, q, n, s, m;
+static uint16_t waits[LONGER], edges[LONGER];
+static int64_t stem, cycle;
 
 /* Plans with a mark in every entry and every number. */
 static uint8_t plan(const uint8_t *sheet, size_t length, size_t entries) {
@@ -104,7 +113,50 @@ static void refused_twice(void) {
     EXPECT(plan(edge_twice, sizeof edge_twice, PLANNER_LEAST_ENTRIES - 1) == 1 && all_zero() && hold(MARK, 0, 0));
 }
 
+/* A work plan with a mark in every entry and every number. */
+static uint8_t work(const uint8_t *sheet, size_t length, size_t wait_entries, size_t edge_entries) {
+    for (size_t i = 0; i < LONGER; i++) waits[i] = edges[i] = MARK;
+    stem = cycle = MARK;
+    return planner_work(sheet, length, waits, wait_entries, edges, edge_entries, &stem, &cycle);
+}
+
+/* Whether both buffers hold the entry, but for so many at their front. */
+static int pairs_hold(uint16_t entry, size_t count) {
+    for (size_t i = count; i < LONGER; i++)
+        if (waits[i] != entry || edges[i] != entry) return 0;
+    return 1;
+}
+
+static int no_pairs(uint16_t entry) { return stem == 0 && cycle == 0 && pairs_hold(entry, 0); }
+
+static int pair_is(size_t at, uint16_t wait, uint16_t edge) { return waits[at] == wait && edges[at] == edge; }
+
+static void work_refused(void) {
+    const size_t least = PLANNER_LEAST_PAIRS;
+    EXPECT(work(bench, sizeof bench, least - 1, LONGER) == 1 && no_pairs(MARK));
+    EXPECT(work(bench, sizeof bench, LONGER, least - 1) == 1 && no_pairs(MARK));
+    EXPECT(work(bench, 0, LONGER, least - 1) == 1 && no_pairs(MARK));
+    EXPECT(work(bench, sizeof bench - 1, LONGER, LONGER) == 5 && no_pairs(MARK));
+    EXPECT(work(edge_twice, sizeof edge_twice, LONGER, LONGER) == 17 && no_pairs(MARK));
+    EXPECT(work(no_edge, sizeof no_edge, LONGER, LONGER) == 13 && no_pairs(0));
+    EXPECT(work(strict_no_cycle, sizeof strict_no_cycle, LONGER, LONGER) == 13 && no_pairs(0));
+    EXPECT(work(idle_gains, sizeof idle_gains, LONGER, LONGER) == 14 && no_pairs(0));
+    EXPECT(work(strict_bound, sizeof strict_bound, LONGER, LONGER) == 18 && no_pairs(0));
+    EXPECT(work(strict_guard, sizeof strict_guard, LONGER, LONGER) == 18 && no_pairs(0));
+    EXPECT(plan(strict_bound, sizeof strict_bound, LONGER) == 0 && p == 3 && q == 1 && n == 6);
+}
+
+static void worked(void) {
+    EXPECT(work(bench, sizeof bench, PLANNER_LEAST_PAIRS, PLANNER_LEAST_PAIRS) == 0);
+    EXPECT(work(bench, sizeof bench, LONGER, LONGER) == 0 && stem == 1 && cycle == 1 && pairs_hold(0, 2));
+    EXPECT(pair_is(0, 1, 0) && pair_is(1, 1, 0));
+    EXPECT(work(in_turn, sizeof in_turn, LONGER, LONGER) == 0 && stem == 1 && cycle == 2 && pairs_hold(0, 3));
+    EXPECT(pair_is(0, 1, 0) && pair_is(1, 2, 1) && pair_is(2, 1, 0));
+}
+
 int main(void) {
+    work_refused();
+    worked();
     refused();
     refused_twice();
     accepted();

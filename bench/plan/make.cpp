@@ -22,12 +22,12 @@ int price(Dice &dice, int most) {
     return dice.chance(50) ? p : -p;
 }
 
-// Bounds up to `high`, a quarter of them strict.
+// Bounds up to `high`, a quarter of them strict unless the kind is closed.
 void put_location(std::vector<uint8_t> &bytes, const Kind &kind, int high, Dice &dice) {
     bytes.push_back(uint8_t(3 | ((1 << kind.clocks) - 1) << 2));
     put_word(bytes, price(dice, 100));
     put_word(bytes, dice.from(1, 20));
-    for (int j = 0; j < kind.clocks; j++) bytes.push_back(uint8_t(2 * dice.from((high + 1) / 2, high) + !dice.chance(25)));
+    for (int j = 0; j < kind.clocks; j++) bytes.push_back(uint8_t(2 * dice.from((high + 1) / 2, high) + (!dice.chance(25) || kind.closed)));
 }
 
 // Most edges reset some clock, and a quarter are guarded from below.
@@ -40,7 +40,9 @@ void put_edge(std::vector<uint8_t> &bytes, const Kind &kind, int place, int high
     put_word(bytes, price(dice, 200));
     put_word(bytes, dice.from(1, 50));
     if (resets) bytes.push_back(uint8_t(dice.from(1, (1 << kind.clocks) - 1)));
-    if (guard >= 0) bytes.push_back(uint8_t(dice.from(1, high)));
+    if (guard < 0) return;
+    int lower = dice.from(1, high);
+    bytes.push_back(uint8_t(kind.closed ? lower + lower % 2 : lower));
 }
 
 std::vector<uint8_t> random_sheet(Kind kind, unsigned seed) {
@@ -118,6 +120,17 @@ Made make_too_long(const Kind &kind, unsigned nodes) {
     if (made.bytes.empty()) return {};
     made.bytes.push_back(0);
     return {made.bytes, 0};
+}
+
+Made make_longest() {
+    std::vector<uint8_t> bytes{1, 12, 3, 32};
+    for (int i = 0; i < 12; i++) bytes.insert(bytes.end(), {0x1f, 1, 0, 1, 0, 3, 3, 3});
+    for (int i = 0; i < 32; i++) {
+        // only the first edge leaves location 0, and it leads back there
+        uint8_t source = uint8_t(i == 0 ? 0 : 1 + i / 12), target = uint8_t(i % 12);
+        bytes.insert(bytes.end(), {0xff, 1, source, target, 1, 0, 1, 0, 7, 2, 2, 2, 3, 3, 3});
+    }
+    return {bytes, 4};
 }
 
 Made make_bench() { return {{1, 1, 1, 1, 5, 1, 0, 5, 15, 0, 0, 0, 5, 0, 2, 0, 1, 2}, 7}; }

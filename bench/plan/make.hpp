@@ -7,6 +7,7 @@
 struct Kind {
     int clocks, locations, edges;       // with 0 locations: any number of them, and 8 edges for each 3
     double least_density, most_density; // arcs a node
+    bool closed = false;                // no bound and no guard is strict
 };
 
 struct Made {
@@ -32,3 +33,6 @@ Made make_too_long(const Kind &kind, unsigned nodes);
 
 // The paper's sheet of eighteen bytes.
 Made make_bench();
+
+// A sheet of the greatest length, with no strict bound or guard and few nodes: much of the time of its plan goes to reading it.
+Made make_longest();

@@ -30,6 +30,15 @@ pub struct PlanNumbers {
     pub m: i64,
 }
 
+/// The numbers of a work plan.
+#[derive(Clone, Copy, Debug, Default, PartialEq, Eq)]
+pub struct WorkNumbers {
+    /// How many pairs the stem has, at least 1.
+    pub stem: i64,
+    /// How many pairs the cycle has, at least 1.
+    pub cycle: i64,
+}
+
 /// Questions 2 to 11 and 17.
 pub fn check(sheet: &[u8]) -> u8 {
     crate::exported::check(sheet)
@@ -71,4 +80,23 @@ pub fn plan(
     numbers: &mut PlanNumbers,
 ) -> u8 {
     crate::exported::plan(sheet, nodes, potentials, steps, numbers)
+}
+
+/// Questions 1 to 14, 17 and 18.
+///
+/// Where it answers 0, `waits` and `edges` hold the pairs of the stem and then of the cycle; the
+/// entries behind are 0, to the end of each buffer. Refusals 1 to 11 and 17 write to no buffer, 12 to
+/// 14 and 18 set every entry of both to 0.
+///
+/// ```
+/// use planner::calls::{work, WorkNumbers};
+///
+/// let mut numbers = WorkNumbers { stem: 7, cycle: 7 };
+/// let mut edges = [7; 2048];
+/// assert_eq!(work(&[], &mut [7; 2049], &mut edges, &mut numbers), 1);
+/// assert_eq!(edges, [7; 2048]);
+/// assert_eq!(numbers, WorkNumbers::default());
+/// ```
+pub fn work(sheet: &[u8], waits: &mut [u16], edges: &mut [u16], numbers: &mut WorkNumbers) -> u8 {
+    crate::exported::work(sheet, waits, edges, numbers)
 }

@@ -1,6 +1,6 @@
 //! The exported functions behind safe ones: the only module with `unsafe`.
 
-use crate::calls::{PlanNumbers, StepNumbers};
+use crate::calls::{PlanNumbers, StepNumbers, WorkNumbers};
 
 /// The same declarations as in `bindings/planner.h`, which says what each call needs.
 mod raw {
@@ -29,6 +29,16 @@ mod raw {
             n: *mut i64,
             s: *mut i64,
             m: *mut i64,
+        ) -> u8;
+        pub fn planner_work(
+            sheet: *const u8,
+            sheet_length: usize,
+            waits: *mut u16,
+            waits_length: usize,
+            edges: *mut u16,
+            edges_length: usize,
+            stem: *mut i64,
+            cycle: *mut i64,
         ) -> u8;
     }
 }
@@ -78,6 +88,22 @@ pub fn plan(
             &mut numbers.n,
             &mut numbers.s,
             &mut numbers.m,
+        )
+    }
+}
+
+pub fn work(sheet: &[u8], waits: &mut [u16], edges: &mut [u16], numbers: &mut WorkNumbers) -> u8 {
+    // SAFETY: as in `plan`.
+    unsafe {
+        raw::planner_work(
+            sheet.as_ptr(),
+            sheet.len(),
+            waits.as_mut_ptr(),
+            waits.len(),
+            edges.as_mut_ptr(),
+            edges.len(),
+            &mut numbers.stem,
+            &mut numbers.cycle,
         )
     }
 }

@@ -1,9 +1,10 @@
 //! The proved planner for double-priced timed sheets.
 //!
 //! A sheet is a small timed automaton written as bytes. [`check`] tells whether bytes are a sheet,
-//! [`step`] takes one step of it, and [`Planner::plan`] finds the least cost per reward of a cycle of
+//! [`step`] takes one step of it, [`Planner::plan`] finds the least cost per reward of a cycle of
 //! corner points that earns, which no repeating schedule undercuts that waits in fractions of a unit,
-//! and a lasso whose cycle has it. `docs/SHEET.md` says what these are.
+//! and a lasso whose cycle has it, and [`WorkPlanner::plan`] makes of such a lasso a schedule that
+//! waits in whole units. `docs/SHEET.md` says what these are.
 //!
 //! ```
 //! let bench = [1, 1, 1, 1, 5, 1, 0, 5, 15, 0, 0, 0, 5, 0, 2, 0, 1, 2];
@@ -15,7 +16,8 @@
 //!
 //! The answers are those of the functions that `crates/exports` proves, in the static library that
 //! `rt staticlib exports` writes. The library allocates nothing and keeps no state; a plan takes up
-//! to 874 KB of the calling thread's stack (measured), and Rust's threads have 2 MB.
+//! to 874 KB of the calling thread's stack and a work plan up to 903 KB (measured), and Rust's
+//! threads have 2 MB.
 #![deny(missing_docs)]
 #![deny(unsafe_code)]
 
@@ -24,15 +26,20 @@ pub mod calls;
 mod exported;
 mod plan;
 mod refusal;
+mod work;
 
 pub use plan::{Plan, Planner};
 pub use refusal::Refusal;
+pub use work::{Pairs, WorkPlan, WorkPlanner};
 
 /// The bytes of the longest sheet; a longer one is refused with 2.
 pub const LONGEST_SHEET: usize = 580;
 
 /// The entries that each buffer of a plan has at least; so many nodes are reachable at most.
 pub const LEAST_ENTRIES: usize = 2048;
+
+/// The entries that each buffer of a work plan has at least; so many pairs it has at most.
+pub const LEAST_PAIRS: usize = 2049;
 
 /// The code of one unit of delay. Codes 0 to 31 are the edges of the sheet.
 pub const UNIT: u16 = 32;

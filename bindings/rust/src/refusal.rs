@@ -16,7 +16,7 @@ impl Refusal {
         }
     }
 
-    /// The question's number, 1 to 17.
+    /// The question's number, 1 to 18.
     pub fn number(self) -> u8 {
         self.0.get()
     }
@@ -24,7 +24,7 @@ impl Refusal {
     /// What the question asks.
     pub fn question(self) -> &'static str {
         match self.number() {
-            1 => "Has each buffer at least 2,048 entries?",
+            1 => "Has each buffer at least 2,048 entries, those of a work plan 2,049?",
             2 => "Is the length 4 to 580?",
             3 => "Is the edition 1?",
             4 => "Are the counts of locations, clocks and edges in range?",
@@ -41,6 +41,7 @@ impl Refusal {
             15 => "Is the number that of a node of this sheet?",
             16 => "Is the code allowed there?",
             17 => "Is each edge entered once?",
+            18 => "Is no bound and no guard strict?",
             _ => "No question has this number.",
         }
     }

@@ -1,7 +1,8 @@
 //! Bench, the sheet of eighteen bytes, and refusals, by every function.
 
-use planner::calls::{self, PlanNumbers, StepNumbers};
-use planner::{check, step, Planner, Step, LEAST_ENTRIES, LONGEST_SHEET, MOVE, UNIT};
+use planner::calls::{self, PlanNumbers, StepNumbers, WorkNumbers};
+use planner::{check, step, Pairs, Planner, Step, WorkPlan, WorkPlanner};
+use planner::{LEAST_ENTRIES, LEAST_PAIRS, LONGEST_SHEET, MOVE, UNIT};
 
 /// One location, clock ≤ 2, rate 1; one edge, clock ≥ 1, reset, cost 5, reward 2.
 const BENCH: [u8; 18] = [1, 1, 1, 1, 5, 1, 0, 5, 15, 0, 0, 0, 5, 0, 2, 0, 1, 2];
@@ -11,6 +12,15 @@ const NO_EDGE: [u8; 8] = [1, 1, 1, 0, 5, 1, 0, 5];
 
 /// Bench without its reward: a cycle, and none that earns.
 const NO_REWARD: [u8; 16] = [1, 1, 1, 1, 5, 1, 0, 5, 13, 0, 0, 0, 5, 0, 1, 2];
+
+/// Bench with clock < 2, and with clock > 1.
+const STRICT_BOUND: [u8; 18] = [1, 1, 1, 1, 5, 1, 0, 4, 15, 0, 0, 0, 5, 0, 2, 0, 1, 2];
+const STRICT_GUARD: [u8; 18] = [1, 1, 1, 1, 5, 1, 0, 5, 15, 0, 0, 0, 5, 0, 2, 0, 1, 3];
+
+/// Two locations in turn: edge 0 leaves the first after 1 unit, edge 1 the second after 2, and to wait
+/// longer costs more.
+const IN_TURN: [u8; 26] =
+    [1, 2, 1, 2, 5, 1, 0, 5, 5, 2, 0, 7, 12, 0, 0, 1, 1, 2, 14, 0, 1, 0, 3, 0, 1, 4];
 
 /// Bench with its edge entered twice.
 const EDGE_TWICE: [u8; 28] =
@@ -84,6 +94,30 @@ fn an_edge_may_not_be_entered_twice() {
 }
 
 #[test]
+fn bench_has_a_work_plan() {
+    let mut planner = WorkPlanner::default();
+    let plan = planner.plan(&BENCH).expect("Bench is accepted");
+    let pair = Pairs { waits: &[1], edges: &[0] };
+    assert_eq!(plan, WorkPlan { stem: pair, cycle: pair });
+    let plan = planner.plan(&IN_TURN).expect("an edge leads back");
+    assert_eq!(plan.stem.iter().collect::<Vec<_>>(), [(1, 0)]);
+    assert_eq!(plan.cycle.iter().collect::<Vec<_>>(), [(2, 1), (1, 0)]);
+}
+
+#[test]
+fn a_sheet_with_a_strict_bound_or_guard_has_no_work_plan() {
+    let mut planner = WorkPlanner::new();
+    for sheet in [STRICT_BOUND, STRICT_GUARD] {
+        let refusal = planner.plan(&sheet).expect_err("something is strict");
+        assert_eq!(refusal.to_string(), "refused 18: Is no bound and no guard strict?");
+        assert_eq!(Planner::new().plan(&sheet).map(|plan| (plan.p, plan.q)), Ok((3, 1)));
+    }
+    assert_eq!(planner.plan(&NO_EDGE).expect_err("no cycle").number(), 13);
+    assert_eq!(planner.plan(&with_idle(-1)).expect_err("it makes money").number(), 14);
+    assert!(planner.plan(&BENCH).is_ok());
+}
+
+#[test]
 fn checks_and_steps() {
     assert_eq!(check(&BENCH), Ok(()));
     assert_eq!(check(&BENCH[..17]).expect_err("a byte less").number(), 5);
@@ -118,5 +152,14 @@ fn every_number_is_written_by_a_refused_call() {
         assert_eq!(nodes, [u32::from(entry); LEAST_ENTRIES]);
         assert_eq!(potentials, [i64::from(entry); LEAST_ENTRIES + 1]);
         assert_eq!(steps, [entry; LEAST_ENTRIES]);
+    }
+    let refused: [(&[u8], u8, u16); 4] =
+        [(&BENCH[..17], 5, 7), (&EDGE_TWICE, 17, 7), (&NO_EDGE, 13, 0), (&STRICT_GUARD, 18, 0)];
+    for (sheet, refusal, entry) in refused {
+        let mut numbers = WorkNumbers { stem: 7, cycle: 7 };
+        let (mut waits, mut edges) = ([7; LEAST_PAIRS], [7; LEAST_PAIRS + 1]);
+        let answer = calls::work(sheet, &mut waits, &mut edges, &mut numbers);
+        assert_eq!((answer, numbers), (refusal, WorkNumbers::default()));
+        assert_eq!((waits, edges), ([entry; LEAST_PAIRS], [entry; LEAST_PAIRS + 1]));
     }
 }

@@ -8,9 +8,10 @@ use native.Mathlib.Omega.{arith}
 use Rattle.integers.proofs.Pigeonhole.{pigeon, also, also-before, also-after, also-one}
 use Rattle.automaton.specs.Priced.{Priced}
 use Rattle.automaton.specs.Walks.{Reachable}
+use Rattle.automaton.proofs.Tests.{by-order}
 use Rattle.walks.specs.Walk.{at}
 use Rattle.contract.specs.Questions.{TooMany}
-use Rattle.contract.specs.Accepted.{Listed}
+use Rattle.contract.specs.Accepted.{Listed, NodeList}
 use Rattle.contract.specs.Explored.{Overfull}
 
 module _ (step : ℕ → ℕ → Option (Priced ℕ)) (start : ℕ) where
@@ -25,6 +26,18 @@ module _ (step : ℕ → ℕ → Option (Priced ℕ)) (start : ℕ) where
     where
       place : (i : ℕ) → Listed node n (o .node (min i 2048))
       place i = listed (o .node (min i 2048)) (o .reachable (min i 2048) (omega arith))
+
+  -- and no more are listed, where no more are reachable
+  pub listed-few : (node : List ℕ) (n : ℕ) → NodeList step start n node → ¬ TooMany step start → n ≤ 2048
+  listed-few node n l few = elim (decLt 2048 n) [
+    | yes h ↦ absurd (few (record {
+      node = at node;
+      distinct = λ i j a b e. by-order i j (λ k. absurd (omega (arith, l .rising i j k (omega arith)))) (λ k. k)
+          (λ k. absurd (omega (arith, l .rising j i k (omega arith))));
+      reachable = λ i a. l .reachable i (omega arith);
+    }))
+    | no h ↦ omega arith
+  ]
 
   pub too-many : (node : List ℕ) → Overfull step start node → TooMany step start
   too-many node o = record {

@@ -13,16 +13,20 @@ pub data Says : Type 0 where
   accepts : (p : ℤ) (q n : ℕ) → Says
   refuses : (refusal : ℕ) → Says
 
+-- what a plan answers to a sheet, lent buffers long enough: its refusal, or 0
+abbrev pub PlanAnswers : List ℕ → ℕ → Type 0
+PlanAnswers bytes r = (b : Buffers) → LongEnough b → Judged bytes b r
+
 -- "A sheet is accepted where every question of a plan but the first is answered yes; its ratio is the p/q that the plan then returns"
 pub record AcceptedAs (bytes : List ℕ) (p : ℤ) (q n : ℕ) : Type 0 where
-  pub judged : (b : Buffers) → LongEnough b → Judged bytes b 0
+  pub judged : PlanAnswers bytes 0
   pub ratio : LeastRatio (stepOn bytes) (startOf bytes) p q
   pub nodes : List ℕ
   pub node-list : NodeList (stepOn bytes) (startOf bytes) n nodes
 
 pub record RefusedAs (bytes : List ℕ) (refusal : ℕ) : Type 0 where
   pub some-number : 0 < refusal
-  pub judged : (b : Buffers) → LongEnough b → Judged bytes b refusal
+  pub judged : PlanAnswers bytes refusal
 
 abbrev pub Holds : List ℕ → Says → Type 0
 Holds bytes (accepts p q n) = AcceptedAs bytes p q n

@@ -1,1 +1,2 @@
 pub mod ExportedPlan
+pub mod ExportedWork

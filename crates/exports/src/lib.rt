@@ -5,7 +5,9 @@ ghost use lib.IntN.{pos};
 ghost use Rattle.sheet.specs.Questions.{checkOf};
 ghost use Rattle.step.specs.Step.{stepOf};
 ghost use Rattle.planner.specs.ContractTerms.{lentBuffers};
+ghost use Rattle.work.specs.Work.{lentPairs};
 ghost use Rattle.exports.specs.ExportedPlan.{ExportedPlan};
+ghost use Rattle.exports.specs.ExportedWork.{ExportedWork};
 
 fn word(x: u32) -> i64
     ensures { λ r. ⌜ r ≡ pos x ⌝ }
@@ -79,5 +81,23 @@ pub extern "C" fn planner_plan(
     *n = half(a.n);
     *s = half(a.s);
     *m = half(a.m);
+    a.refusal
+}
+
+// A work plan in whole units: a stem and a cycle of so many pairs.
+#[no_mangle]
+pub extern "C" fn planner_work(
+    sheet: &[u8],
+    waits: &mut [u16],
+    edges: &mut [u16],
+    stem: &mut i64,
+    cycle: &mut i64,
+) -> u8
+    ensures { λ r. ⌜ ExportedWork (now (sheet .entry)) (lentPairs (now (waits .entry)) (now (edges .entry)))
+        (lentPairs (now (waits .exit)) (now (edges .exit))) r (now (stem .exit)) (now (cycle .exit)) ⌝ }
+{
+    let a = work::work(sheet, waits, edges);
+    *stem = half(a.stem);
+    *cycle = half(a.cycle);
     a.refusal
 }

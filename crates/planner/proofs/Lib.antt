@@ -1,4 +1,4 @@
-pub mod ListLaws
+pub mod PickedLaws
 pub mod LassoLaws
 pub mod AcceptLaws
 pub mod GraphLaws

@@ -1,9 +1,9 @@
 -- What the private functions are handed, and what they promise each other. Only private functions go by this file.
 use mathlib.Core.Path.{_≡_}
-use mathlib.Core.List.{List, _++_}
-use Prim.Native.Nat.{ℕ, _-_, _≤_, _<_}
+use mathlib.Core.List.{List}
+use Prim.Native.Nat.{ℕ, _≤_, _<_}
 use lib.IntN.{ℤ}
-use lib.ListN.{length, getD, take, replicate}
+use lib.ListN.{length, getD, take}
 use Rattle.sheet.specs.Questions.{checkOf}
 use Rattle.sheet.specs.Decoded.{readOf}
 use Rattle.sheet.specs.declared.Sheet.{Sheet}
@@ -15,16 +15,7 @@ use Rattle.ratio.specs.Answer.{RatioFound}
 use Rattle.contract.specs.Plan.{Answer, refusedPlan, Buffers, LongEnough, SameLengths, Passed, Judged, Planned, stepOn, startOf}
 use Rattle.contract.specs.Explored.{Found, Explored, Sorted}
 
--- ---- lists that are written
-
--- zeros from the place a on
-abbrev pub cleared : {A : Type 0} → A → List A → ℕ → List A
-cleared zero l a = take a l ++ replicate (length l - a) zero
-
--- l' is l with zeros from the place a on
-pub record Cleared {A : Type 0} (zero : A) (a : ℕ) (l l' : List A) : Type 0 where
-  pub room : a ≤ length l
-  pub is : l' ≡ cleared zero l a
+-- ---- entries picked from a list
 
 -- the first n entries of l' are those of s at the places that I names
 pub record Picked {A : Type 0} (zero : A) (s : List A) (I : List ℕ) (n : ℕ) (l l' : List A) : Type 0 where

@@ -37,11 +37,11 @@ fn accept(
         return crate::output::refused(13);
     };
     let all = s + k;
-    crate::output::clear_nodes(nodes, n);
+    buffers::clear_u32(nodes, n);
     crate::output::permute(least, order, n, potentials);
-    crate::output::clear_potentials(potentials, n);
+    buffers::clear_i64(potentials, n);
     crate::output::encode(code, &arcs, all, steps);
-    crate::output::clear_steps(steps, all);
+    buffers::clear_u16(steps, all);
     crate::output::accepted(p, q, n, s, k)
 }
 

@@ -5,7 +5,7 @@ ghost use lib.IntN.{pos};
 ghost use lib.ListN.{length, replicate};
 ghost use Rattle.contract.specs.Plan as Contract;
 ghost use Rattle.planner.specs.ContractTerms.{answerOf, accepted};
-ghost use Rattle.planner.specs.PrivatePromises.{Cleared, Picked, Pickable};
+ghost use Rattle.planner.specs.PrivatePromises.{Picked, Pickable};
 use crate::Answer;
 
 // All numbers besides the refusal are 0.
@@ -37,40 +37,6 @@ pub(crate) fn accepted(p: i64, q: u64, n: usize, s: usize, m: usize) -> Answer
     }
 }
 
-// Zeros from a place on.
-pub(crate) fn clear_nodes(list: &mut [u32], from: usize)
-    requires { ⌜ from ≤ length (now list) ⌝ }
-    ensures { λ _. ⌜ Cleared 0 from (now (list .entry)) (now (list .exit)) ⌝ }
-{
-    let mut i = from;
-    while i < list.len() {
-        list[i] = 0;
-        i += 1;
-    }
-}
-
-pub(crate) fn clear_potentials(list: &mut [i64], from: usize)
-    requires { ⌜ from ≤ length (now list) ⌝ }
-    ensures { λ _. ⌜ Cleared (pos 0) from (now (list .entry)) (now (list .exit)) ⌝ }
-{
-    let mut i = from;
-    while i < list.len() {
-        list[i] = 0;
-        i += 1;
-    }
-}
-
-pub(crate) fn clear_steps(list: &mut [u16], from: usize)
-    requires { ⌜ from ≤ length (now list) ⌝ }
-    ensures { λ _. ⌜ Cleared 0 from (now (list .entry)) (now (list .exit)) ⌝ }
-{
-    let mut i = from;
-    while i < list.len() {
-        list[i] = 0;
-        i += 1;
-    }
-}
-
 // A refusal after which all entries are 0.
 pub(crate) fn refuse(
     refusal: u8,
@@ -83,9 +49,9 @@ pub(crate) fn refuse(
         ⌜ now (potentials .exit) ≡ replicate (length (now (potentials .entry))) (pos 0) ⌝ ∗
         ⌜ now (steps .exit) ≡ replicate (length (now (steps .entry))) 0 ⌝ }
 {
-    clear_nodes(nodes, 0);
-    clear_potentials(potentials, 0);
-    clear_steps(steps, 0);
+    buffers::clear_u32(nodes, 0);
+    buffers::clear_i64(potentials, 0);
+    buffers::clear_u16(steps, 0);
     refused(refusal)
 }
 

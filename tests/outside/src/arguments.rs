@@ -1,6 +1,6 @@
 //! The words after the program's name.
 
-use crate::fault::{Fault, FAULTS};
+use crate::fault::{faults, Fault};
 
 pub struct Arguments {
     pub seed: u64,
@@ -18,9 +18,10 @@ fn number(option: &str, value: Option<String>) -> Result<u64, String> {
 }
 
 fn fault(value: Option<String>) -> Result<Fault, String> {
-    let names: Vec<&str> = FAULTS.iter().map(|(name, _)| *name).collect();
+    let faults = faults();
+    let names: Vec<&str> = faults.iter().map(|(name, _)| *name).collect();
     let value = value.unwrap_or_default();
-    let found = FAULTS.iter().find(|(name, _)| *name == value);
+    let found = faults.iter().find(|(name, _)| *name == value);
     found.map(|(_, fault)| *fault).ok_or_else(|| format!("--fault is one of {}", names.join(", ")))
 }
 

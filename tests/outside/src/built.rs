@@ -2,7 +2,7 @@
 
 use crate::generate::{cost, leave_out_copies, reward, sheet, Shape};
 use crate::random::Random;
-use crate::sheet::{Edge, Sheet};
+use crate::sheet::{Edge, Location, Sheet};
 
 /// Locations in a ring, each left only after a long time: the ratio has a great denominator.
 pub fn ring(random: &mut Random, shape: &Shape) -> Sheet {
@@ -38,6 +38,65 @@ pub fn dear_ring(random: &mut Random, shape: &Shape) -> Sheet {
         let cost = random.within(0, 2);
         made.edges.push(Edge { source: place, target: place, cost, ..Edge::default() });
     }
+    made
+}
+
+/// A ring that the start leads to while no clock is reset: a lasso comes to it in the middle of a
+/// wait, with which its cycle then ends.
+pub fn ring_entered_late(random: &mut Random, shape: &Shape) -> Sheet {
+    let mut made = ring(random, shape);
+    let first = random.within(1, 11);
+    for edge in &mut made.edges {
+        (edge.source, edge.target) = (edge.source + 1, edge.target + 1);
+        edge.lower[0] = Some(2 * random.within(first, 11) as u8);
+    }
+    made.locations.insert(0, Location { upper: [25; 3], ..Location::default() });
+    let mut edge = Edge { target: 1, cost: cost(random, shape.prices), ..Edge::default() };
+    edge.lower[0] = Some(2 * first as u8);
+    made.edges.push(edge);
+    made
+}
+
+/// A ring that takes a unit, and two more clocks that each have to be reset at a number of their own:
+/// a run comes back only where both are reset at once, after up to 132 rounds.
+pub fn slow_ring(random: &mut Random, shape: &Shape) -> Sheet {
+    let mut made = sheet(random, shape);
+    let count = made.locations.len();
+    let most = random.pick(&[6, 9, 11, 12, 12]);
+    for (source, location) in made.locations.iter_mut().enumerate() {
+        location.upper = [1, 2 * most + 1, 2 * most - 1];
+        let mut edge = Edge { source, target: (source + 1) % count, ..Edge::default() };
+        (edge.cost, edge.reward) = (cost(random, shape.prices), reward(random, shape.prices));
+        made.edges.push(edge);
+    }
+    made.locations[0].upper[0] = 3;
+    (made.edges[0].mask, made.edges[0].lower[0]) = (1, Some(2));
+    for (clock, units) in [(1, most), (2, most - 1)] {
+        let mut edge = Edge { mask: 1 << clock, ..Edge::default() };
+        (edge.cost, edge.reward) = (cost(random, shape.prices), reward(random, shape.prices));
+        (edge.lower[clock], edge.upper[0]) = (Some(2 * units), Some(1));
+        made.edges.push(edge);
+    }
+    made
+}
+
+/// A slow ring that earns nothing, and can be left just before it would come back: the stem is long.
+pub fn slow_ring_left(random: &mut Random, shape: &Shape) -> Sheet {
+    let mut made = slow_ring(random, shape);
+    for location in &mut made.locations {
+        (location.cost, location.reward) = (random.within(0, 9), 0);
+    }
+    for edge in &mut made.edges {
+        (edge.cost, edge.reward) = (random.within(0, 9), 0);
+    }
+    let (target, [_, longer, shorter]) = (made.locations.len(), made.locations[0].upper);
+    made.locations.push(Location { upper: [3, 25, 25], ..Location::default() });
+    let mut way = Edge { target, mask: 7, ..Edge::default() };
+    (way.lower[1], way.lower[2]) = (Some(longer - 1), Some(shorter - 1));
+    let mut round = Edge { source: target, target, mask: 7, ..Edge::default() };
+    (round.cost, round.reward) = (cost(random, shape.prices), reward(random, shape.prices));
+    round.lower[0] = Some(2);
+    made.edges.extend([way, round]);
     made
 }
 

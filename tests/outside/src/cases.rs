@@ -4,12 +4,14 @@ use crate::arguments::Arguments;
 use crate::expected::expect;
 use crate::fault::Planner;
 use crate::hexadecimal;
-use crate::judge_plan::{judge_plan, same, Verdict};
+use crate::judge_plan::judge_plan;
 use crate::judge_step::{expected_step, Answer};
+use crate::judge_work::judge_work;
 use crate::marked::step_numbers;
 use crate::random::Random;
 use crate::sha256::digest;
 use crate::sheet::read;
+use crate::verdict::{same, Verdict};
 use planner::calls::StepNumbers;
 
 pub struct Row {
@@ -80,6 +82,18 @@ fn judge_plan_row(planner: &Planner, row: &Row, random: &mut Random) -> Verdict<
     same("sha256 of nodes and potentials", &sum, &row.columns[2])
 }
 
+/// The pairs are not on file: they are replayed.
+fn judge_work_row(planner: &Planner, row: &Row, random: &mut Random) -> Verdict<()> {
+    let expected = expect(&row.sheet);
+    same("work plan: here and on file", expected.work_refusal(), row.number(1)?)?;
+    let judged = judge_plan(planner, &row.sheet, &expected, random)?;
+    let answer = judged.answer.as_ref();
+    let worked = judge_work(planner, &row.sheet, &expected, answer, random)?;
+    let accepted = answer.filter(|_| worked.plan.is_some());
+    let ratio = accepted.map_or((0, 0), |answer| (answer.p, answer.q));
+    same("ratio of a work plan", ratio, (row.number(2)?, row.number(3)?))
+}
+
 fn named(row: &Row) -> impl Fn(String) -> String + '_ {
     |message| format!("{}: {message}\nsheet {}", row.place, hexadecimal::write(&row.sheet))
 }
@@ -100,12 +114,12 @@ pub fn run(arguments: &Arguments) -> Verdict<()> {
     for row in &plans {
         judge_plan_row(&planner, row, random).map_err(named(row))?;
     }
+    let work_plans = rows(folder, "work.tsv", 5)?;
+    for row in &work_plans {
+        judge_work_row(&planner, row, random).map_err(named(row))?;
+    }
     println!("frozen cases that agree");
-    println!(
-        "  {:>9}  checks\n  {:>9}  steps\n  {:>9}  plans",
-        checks.len(),
-        steps.len(),
-        plans.len()
-    );
+    println!("  {:>9}  checks\n  {:>9}  steps", checks.len(), steps.len());
+    println!("  {:>9}  plans\n  {:>9}  work plans", plans.len(), work_plans.len());
     Ok(())
 }

@@ -4,7 +4,9 @@ use crate::expected::Expected;
 use crate::explore::{Graph, MOST_NODES};
 use crate::judge_plan::Answer;
 use crate::questions::{idle_cycles, Idle};
+use crate::region::UNIT;
 use crate::sheet::Sheet;
+use crate::strict::all_closed;
 use crate::tally::Tally;
 
 /// How many sheets are made where no number is given.
@@ -84,13 +86,6 @@ pub const PROMISED: [(&str, u64); 70] = [
     ("length: 580 bytes", 100),
 ];
 
-pub fn all_closed(sheet: &Sheet) -> bool {
-    let bounds = sheet.locations.iter().flat_map(|at| &at.upper[..sheet.clocks]);
-    let uppers = sheet.edges.iter().flat_map(|edge| edge.upper.iter().flatten());
-    let lowers = sheet.edges.iter().flat_map(|edge| edge.lower.iter().flatten());
-    bounds.chain(uppers).all(|byte| byte % 2 == 1) && { lowers }.all(|byte| byte % 2 == 0)
-}
-
 pub fn count_accepted(tally: &mut Tally, sheet: &Sheet, graph: &Graph, answer: &Answer) {
     let nodes = graph.numbers.len();
     let plural = if sheet.clocks == 1 { "" } else { "s" };
@@ -110,9 +105,9 @@ pub fn count_accepted(tally: &mut Tally, sheet: &Sheet, graph: &Graph, answer: &
         ("ratio below -1,000,000", answer.p < -1_000_000 * answer.q),
         ("a potential below 0", answer.lowest_potential < 0),
         ("a potential below -10^10", answer.lowest_potential < -10_000_000_000),
-        ("no stem", answer.stem == 0),
-        ("a stem", answer.stem > 0),
-        ("time passes in the cycle", answer.units > 0),
+        ("no stem", answer.stem.is_empty()),
+        ("a stem", !answer.stem.is_empty()),
+        ("time passes in the cycle", answer.cycle.contains(&UNIT)),
         ("2,048 nodes", nodes == MOST_NODES),
         ("2,000 to 2,047 nodes", (2000..MOST_NODES).contains(&nodes)),
         ("40,000 arcs and more", graph.arcs.len() >= 40_000),

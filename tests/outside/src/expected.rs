@@ -3,6 +3,7 @@
 use crate::explore::{explore, Graph, MOST_NODES};
 use crate::questions::{some_cycle_earns, some_idle_cycle_gains};
 use crate::sheet::{read, Sheet};
+use crate::strict::all_closed;
 
 pub struct Expected {
     pub refusal: u8,
@@ -10,6 +11,16 @@ pub struct Expected {
     pub sheet: Option<Sheet>,
     /// There with the sheet; not whole where the refusal is 12.
     pub graph: Option<Graph>,
+}
+
+impl Expected {
+    /// What a work plan answers, lent buffers long enough: 18 is asked after all questions of a plan.
+    pub fn work_refusal(&self) -> u8 {
+        match &self.sheet {
+            Some(sheet) if self.refusal == 0 && !all_closed(sheet) => 18,
+            _ => self.refusal,
+        }
+    }
 }
 
 /// Sheets with more nodes than this are not counted any further.

@@ -1,10 +1,13 @@
 //! The library's answers, with a planted fault between the library and the comparison if asked.
 
 use crate::explore::MOST_NODES;
-use crate::marked::Buffers;
+use crate::marked::{Buffers, PairBuffers};
 use crate::planted::{accepted, refused};
-use crate::planted_twice::Twice;
-use planner::calls::{self, PlanNumbers, StepNumbers};
+use crate::planted_pairs::{PairFault, PAIR_FAULTS};
+use crate::planted_strict::{Question18, QUESTION_18_FAULTS};
+use crate::planted_twice::{Twice, TWICE_FAULTS};
+use crate::planted_work::{Work, WORK_FAULTS};
+use planner::calls::{self, PlanNumbers, StepNumbers, WorkNumbers};
 
 #[derive(Clone, Copy, Debug, PartialEq)]
 pub enum Fault {
@@ -68,9 +71,15 @@ pub enum Fault {
     Number,
     /// A fault in question 17.
     Twice(Twice),
+    /// A fault in the pairs of a work plan.
+    Pairs(PairFault),
+    /// Another fault in a work plan, but for question 18.
+    Work(Work),
+    /// A fault in question 18.
+    Question18(Question18),
 }
 
-pub const FAULTS: [(&str, Fault); 38] = [
+const FAULTS: [(&str, Fault); 29] = [
     ("high", Fault::High),
     ("low", Fault::Low),
     ("terms", Fault::Terms),
@@ -100,16 +109,17 @@ pub const FAULTS: [(&str, Fault); 38] = [
     ("step", Fault::Step),
     ("prices", Fault::Prices),
     ("number", Fault::Number),
-    ("twice-missed", Fault::Twice(Twice::Missed)),
-    ("twice-neighbours", Fault::Twice(Twice::Neighbours)),
-    ("twice-last-byte", Fault::Twice(Twice::LastByte)),
-    ("twice-map", Fault::Twice(Twice::Map)),
-    ("twice-late", Fault::Twice(Twice::Late)),
-    ("twice-early", Fault::Twice(Twice::Early)),
-    ("twice-step", Fault::Twice(Twice::Step)),
-    ("twice-plan", Fault::Twice(Twice::Plan)),
-    ("twice-clear", Fault::Twice(Twice::Clear)),
 ];
+
+/// Each fault with its name.
+pub fn faults() -> Vec<(&'static str, Fault)> {
+    let mut faults = FAULTS.to_vec();
+    faults.extend(TWICE_FAULTS.map(|(name, fault)| (name, Fault::Twice(fault))));
+    faults.extend(PAIR_FAULTS.map(|(name, fault)| (name, Fault::Pairs(fault))));
+    faults.extend(WORK_FAULTS.map(|(name, fault)| (name, Fault::Work(fault))));
+    faults.extend(QUESTION_18_FAULTS.map(|(name, fault)| (name, Fault::Question18(fault))));
+    faults
+}
 
 pub struct Planner {
     pub fault: Option<Fault>,
@@ -158,6 +168,20 @@ impl Planner {
                 refusal
             }
             (Some(fault), _) => refused(fault, refusal, sheet, buffers, numbers),
+        }
+    }
+
+    pub fn work(&self, sheet: &[u8], buffers: &mut PairBuffers, numbers: &mut WorkNumbers) -> u8 {
+        let before = (buffers.clone(), *numbers);
+        let refusal = calls::work(sheet, &mut buffers.waits, &mut buffers.edges, numbers);
+        match self.fault {
+            Some(Fault::Pairs(fault)) if refusal == 0 => {
+                fault.plant(sheet, buffers, numbers);
+                0
+            }
+            Some(Fault::Work(fault)) => fault.plant(sheet, refusal, before, buffers, numbers),
+            Some(Fault::Question18(fault)) => fault.plant(sheet, refusal, numbers),
+            _ => refusal,
         }
     }
 

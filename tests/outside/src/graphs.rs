@@ -6,8 +6,8 @@ use crate::coverage::SHEETS;
 use crate::expected::expect;
 use crate::fault::Planner;
 use crate::hexadecimal;
-use crate::judge_plan::Verdict;
 use crate::kinds::generate;
+use crate::verdict::Verdict;
 use std::io::Write;
 
 fn ratio(planner: &Planner, bytes: &[u8]) -> Option<(i64, i64)> {

@@ -4,10 +4,10 @@ use crate::damage::{damage, damage_more};
 use crate::expected::Expected;
 use crate::fault::Planner;
 use crate::hexadecimal;
-use crate::judge_plan::{same, Verdict};
 use crate::random::Random;
 use crate::sheet::read;
 use crate::tally::Tally;
+use crate::verdict::{same, Verdict};
 use crate::write::write;
 
 const VARIANTS: usize = 10;

@@ -2,10 +2,10 @@
 //! exactly the ratio.
 
 use crate::fault::Planner;
-use crate::judge_plan::{same, Verdict};
 use crate::marked::Buffers;
 use crate::region::{node_of, step};
 use crate::sheet::Sheet;
+use crate::verdict::{all_zero, same, Verdict};
 use planner::calls::{PlanNumbers, StepNumbers};
 use std::collections::HashSet;
 
@@ -42,9 +42,7 @@ pub fn judge_lasso(
         return Err(format!("lasso: a stem of {s} and a cycle of {m} steps with {n} nodes"));
     }
     let (stem, length) = (s as usize, (s + m) as usize);
-    if buffers.steps[length..].iter().any(|&entry| entry != 0) {
-        return Err("rest of the steps: an entry is not 0".to_string());
-    }
+    all_zero("rest of the steps", &buffers.steps[length..])?;
     let mut met = HashSet::from([0]);
     let (mut number, mut closing) = (0, 0);
     let (mut costs, mut rewards) = (0, 0);

@@ -6,20 +6,18 @@ use crate::fault::Planner;
 use crate::judge_lasso::judge_lasso;
 use crate::marked::{self, Buffers};
 use crate::random::Random;
-use crate::region::UNIT;
+use crate::verdict::{all_zero, same, untouched, Verdict};
 use crate::weights::{least_weights, weighted};
 use planner::calls::PlanNumbers;
-
-pub type Verdict<T> = Result<T, String>;
 
 /// What an accepted plan answered, once it is judged.
 pub struct Answer {
     pub p: i64,
     pub q: i64,
     pub lowest_potential: i64,
-    /// The steps of the stem, and the units of delay in the cycle.
-    pub stem: usize,
-    pub units: usize,
+    /// The step codes of the lasso.
+    pub stem: Vec<u16>,
+    pub cycle: Vec<u16>,
     /// The node numbers and then the potentials as bytes, for a digest.
     pub bytes: Vec<u8>,
 }
@@ -31,45 +29,16 @@ pub struct Judged {
     pub answer: Option<Answer>,
 }
 
-pub fn same<T: PartialEq + std::fmt::Debug>(what: &str, library: T, here: T) -> Verdict<()> {
-    if library == here {
-        return Ok(());
-    }
-    Err(format!("{what}: the library has {library:?}, expected {here:?}"))
-}
-
-fn untouched(what: &str, after: &Buffers, before: &Buffers) -> Verdict<()> {
-    if after == before {
-        return Ok(());
-    }
-    Err(format!("{what}: a buffer was written to"))
-}
-
-fn all_zero(what: &str, zero: bool) -> Verdict<()> {
-    if zero {
-        return Ok(());
-    }
-    Err(format!("{what}: an entry is not 0"))
-}
-
 /// A short buffer gets 1, whatever the sheet; no buffer is written to, and the numbers are 0.
 fn judge_short(planner: &Planner, bytes: &[u8], random: &mut Random) -> Verdict<()> {
     let mut lengths = [MOST_NODES; 3].map(|least| least + random.below(2) * random.below(100));
-    lengths[random.below(3)] = random_short(random, MOST_NODES);
+    lengths[random.below(3)] = marked::short_length(random, MOST_NODES);
     let mut buffers = marked::buffers(random, lengths);
     let before = buffers.clone();
     let mut numbers = marked::plan_numbers(random);
     same("short buffer", planner.plan(bytes, &mut buffers, &mut numbers), 1)?;
     same("short buffer: the numbers", numbers, PlanNumbers::default())?;
     untouched("short buffer", &buffers, &before)
-}
-
-fn random_short(random: &mut Random, enough: usize) -> usize {
-    match random.below(3) {
-        0 => enough - 1,
-        1 => 0,
-        _ => random.below(enough),
-    }
 }
 
 pub fn divisor(a: i64, b: i64) -> i64 {
@@ -95,11 +64,8 @@ fn judge_nodes(graph: &Graph, buffers: &Buffers, n: i64) -> Verdict<usize> {
     for (at, number) in numbers.iter().enumerate() {
         same(&format!("node list, entry {at}"), buffers.nodes[at], *number)?;
     }
-    all_zero("rest of the nodes", buffers.nodes[count..].iter().all(|&entry| entry == 0))?;
-    all_zero(
-        "rest of the potentials",
-        buffers.potentials[count..].iter().all(|&entry| entry == 0),
-    )?;
+    all_zero("rest of the nodes", &buffers.nodes[count..])?;
+    all_zero("rest of the potentials", &buffers.potentials[count..])?;
     Ok(count)
 }
 
@@ -138,8 +104,8 @@ fn judge_accepted(
     Ok(Answer {
         p,
         q,
-        stem,
-        units: buffers.steps[stem..length].iter().filter(|&&code| code == UNIT).count(),
+        stem: buffers.steps[..stem].to_vec(),
+        cycle: buffers.steps[stem..length].to_vec(),
         lowest_potential: potentials.iter().copied().min().expect("the start has a potential"),
         bytes: nodes.chain(potentials.iter().flat_map(|weight| weight.to_le_bytes())).collect(),
     })
@@ -168,10 +134,9 @@ pub fn judge_plan(
     if expected.sheet.is_none() {
         untouched("refused plan", &buffers, &before)?;
     } else {
-        all_zero("nodes of a refused plan", buffers.nodes.iter().all(|&entry| entry == 0))?;
-        let zero = buffers.potentials.iter().all(|&entry| entry == 0);
-        all_zero("potentials of a refused plan", zero)?;
-        all_zero("steps of a refused plan", buffers.steps.iter().all(|&entry| entry == 0))?;
+        all_zero("nodes of a refused plan", &buffers.nodes)?;
+        all_zero("potentials of a refused plan", &buffers.potentials)?;
+        all_zero("steps of a refused plan", &buffers.steps)?;
     }
     Ok(Judged { longer, answer: None })
 }

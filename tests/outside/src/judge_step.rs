@@ -2,12 +2,12 @@
 
 use crate::expected::Expected;
 use crate::fault::Planner;
-use crate::judge_plan::{same, Verdict};
 use crate::marked::step_numbers;
 use crate::random::Random;
 use crate::region::{node_of, step, Node};
 use crate::sheet::Sheet;
 use crate::tally::Tally;
+use crate::verdict::{same, Verdict};
 use planner::calls::StepNumbers;
 
 /// The refusal, and the new node's number, the cost and the reward.

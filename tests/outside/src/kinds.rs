@@ -7,37 +7,43 @@ use crate::generate::{leave_out_copies, sheet, Prices, Shape};
 use crate::idle::{lay, take_rewards, take_some_rewards, Laid};
 use crate::random::Random;
 use crate::shapes::{shape_of, small_shape};
+use crate::strict_sheets::{closed, one_strict, strict_and_fault};
 use crate::twice::{alike, all_alike, twice, twice_and_fault};
 use crate::write::write;
 
 /// The kind with an edge entered twice and one fault more.
 pub const TWICE_AND_FAULT: &str = "edge twice and a fault";
 
+/// The kind with something strict and a fault that the check finds.
+pub const STRICT_AND_FAULT: &str = "strict and a fault";
+
 /// Each kind and how many of a thousand sheets are of it.
-const KINDS: [(&str, u64); 23] = [
-    ("tiny", 55),
-    ("small", 85),
-    ("strict", 45),
-    ("closed", 45),
-    ("large", 45),
-    ("border", 80),
+const KINDS: [(&str, u64); 25] = [
+    ("tiny", 40),
+    ("small", 55),
+    ("strict", 30),
+    ("closed", 75),
+    ("one strict", 85),
+    (STRICT_AND_FAULT, 30),
+    ("large", 40),
+    ("border", 70),
     ("dense", 20),
     ("too many", 30),
-    ("no cycle", 45),
-    ("idle, costs", 50),
+    ("no cycle", 40),
+    ("idle, costs", 45),
     ("idle, free", 40),
-    ("idle, gains", 50),
-    ("extreme", 40),
+    ("idle, gains", 45),
+    ("extreme", 30),
     ("ring", 20),
     ("dear ring", 10),
     ("long", 20),
-    ("edge twice", 60),
+    ("edge twice", 55),
     (TWICE_AND_FAULT, 30),
-    ("edges alike", 45),
+    ("edges alike", 40),
     ("all edges alike", 5),
-    ("damaged", 95),
-    ("damaged more", 65),
-    ("noise", 20),
+    ("damaged", 80),
+    ("damaged more", 50),
+    ("noise", 15),
 ];
 
 fn border_bytes(random: &mut Random, dense: bool) -> Vec<u8> {
@@ -106,6 +112,9 @@ pub fn generate(seed: u64) -> (&'static str, Vec<u8>) {
         "idle, gains" => idle_bytes(random, &[Laid::GainOrCost]),
         TWICE_AND_FAULT => twice_and_fault(random),
         "edges alike" => alike(random),
+        "closed" => write(&closed(random)).bytes,
+        "one strict" => write(&one_strict(random)).bytes,
+        STRICT_AND_FAULT => strict_and_fault(random),
         "damaged" => damaged_bytes(random, false),
         "damaged more" => damaged_bytes(random, true),
         "noise" => noise(random),

@@ -2,7 +2,16 @@
 //! be seen.
 
 use crate::random::Random;
-use planner::calls::{PlanNumbers, StepNumbers};
+use planner::calls::{PlanNumbers, StepNumbers, WorkNumbers};
+
+/// Fewer entries than are enough, often one fewer or none.
+pub fn short_length(random: &mut Random, enough: usize) -> usize {
+    match random.below(3) {
+        0 => enough - 1,
+        1 => 0,
+        _ => random.below(enough),
+    }
+}
 
 /// The three buffers lent to a plan.
 #[derive(Clone, PartialEq)]
@@ -18,6 +27,24 @@ pub fn buffers(random: &mut Random, lengths: [usize; 3]) -> Buffers {
         potentials: (0..lengths[1]).map(|_| random.next() as i64 | 1).collect(),
         steps: (0..lengths[2]).map(|_| random.next() as u16 | 1).collect(),
     }
+}
+
+/// The two buffers lent to a work plan.
+#[derive(Clone, PartialEq)]
+pub struct PairBuffers {
+    pub waits: Vec<u16>,
+    pub edges: Vec<u16>,
+}
+
+pub fn pair_buffers(random: &mut Random, lengths: [usize; 2]) -> PairBuffers {
+    let [waits, edges] =
+        lengths.map(|length| (0..length).map(|_| random.next() as u16 | 1).collect());
+    PairBuffers { waits, edges }
+}
+
+pub fn work_numbers(random: &mut Random) -> WorkNumbers {
+    let [stem, cycle] = [(); 2].map(|_| random.next() as i64 | 1);
+    WorkNumbers { stem, cycle }
 }
 
 pub fn plan_numbers(random: &mut Random) -> PlanNumbers {

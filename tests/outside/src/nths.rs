@@ -2,18 +2,18 @@
 //! promises where no bound and no guard is strict.
 
 use crate::arguments::Arguments;
-use crate::coverage::all_closed;
 use crate::fault::Planner;
 use crate::generate::{leave_out_copies, sheet, Shape};
 use crate::hexadecimal;
 use crate::idle::{lay, take_rewards, Laid};
-use crate::judge_plan::Verdict;
 use crate::questions::{idle_cycles, some_cycle_earns, some_idle_cycle_gains, Idle};
 use crate::random::Random;
 use crate::runs::{explore, loop_below, Runs};
 use crate::shapes::{small_shape, tiny_shape};
 use crate::sheet::Sheet;
+use crate::strict::all_closed;
 use crate::tally::Tally;
+use crate::verdict::Verdict;
 use crate::write::write;
 
 const MOST_NTHS: u32 = 4;

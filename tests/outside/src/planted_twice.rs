@@ -25,6 +25,18 @@ pub enum Twice {
     Clear,
 }
 
+pub const TWICE_FAULTS: [(&str, Twice); 9] = [
+    ("twice-missed", Twice::Missed),
+    ("twice-neighbours", Twice::Neighbours),
+    ("twice-last-byte", Twice::LastByte),
+    ("twice-map", Twice::Map),
+    ("twice-late", Twice::Late),
+    ("twice-early", Twice::Early),
+    ("twice-step", Twice::Step),
+    ("twice-plan", Twice::Plan),
+    ("twice-clear", Twice::Clear),
+];
+
 fn some_pair(sheet: &[u8], like: impl Fn(&[u8], &[u8], usize) -> bool) -> bool {
     let (_, records) = read_records(sheet).expect("the library passes questions 2 to 10");
     let found = pairs(&records).any(|(a, b, distance)| like(a, b, distance));

@@ -3,7 +3,7 @@
 use crate::arguments::Arguments;
 use crate::cases::{rows, Row};
 use crate::hexadecimal;
-use crate::judge_plan::{same, Verdict};
+use crate::verdict::{same, Verdict};
 use std::io::Write;
 use std::process::{Command, Output, Stdio};
 use std::time::Duration;

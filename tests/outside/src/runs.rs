@@ -10,11 +10,13 @@ use crate::sheet::{Edge, Sheet};
 use crate::weights::{least_weights, weighted, Arc};
 use std::collections::HashMap;
 
-#[derive(Clone, Copy, PartialEq, Eq, Hash)]
-struct State {
-    location: usize,
+#[derive(Clone, Copy, Debug, PartialEq, Eq, Hash)]
+pub struct State {
+    pub location: usize,
     values: [u32; 3],
 }
+
+pub const START: State = State { location: 0, values: [0; 3] };
 
 pub struct Runs {
     pub states: usize,
@@ -35,12 +37,14 @@ fn at_least(lower: u8, value: u32, n: u32) -> bool {
     value > bound || lower % 2 != 1 && value == bound
 }
 
-fn admitted(sheet: &Sheet, state: &State, n: u32) -> bool {
+/// Whether the values are within the bounds of the location.
+pub fn admitted(sheet: &Sheet, state: &State, n: u32) -> bool {
     let upper = &sheet.locations[state.location].upper;
     (0..sheet.clocks).all(|j| at_most(upper[j], state.values[j], n))
 }
 
-fn after_edge(sheet: &Sheet, state: &State, edge: &Edge, n: u32) -> Option<State> {
+/// The state that the edge leads to, if its source is here and its guards hold.
+pub fn after_edge(sheet: &Sheet, state: &State, edge: &Edge, n: u32) -> Option<State> {
     let holds = |j: usize| {
         edge.lower[j].is_none_or(|lower| at_least(lower, state.values[j], n))
             && edge.upper[j].is_none_or(|upper| at_most(upper, state.values[j], n))
@@ -55,23 +59,22 @@ fn after_edge(sheet: &Sheet, state: &State, edge: &Edge, n: u32) -> Option<State
     Some(next)
 }
 
-fn after_one_nth(sheet: &Sheet, state: &State) -> State {
+pub fn after_delay(sheet: &Sheet, state: &State, nths: u32) -> State {
     let mut next = *state;
-    next.values[..sheet.clocks].iter_mut().for_each(|value| *value += 1);
+    next.values[..sheet.clocks].iter_mut().for_each(|value| *value += nths);
     next
 }
 
 /// All states that runs in nths reach, or none where they are too many.
 pub fn explore(sheet: &Sheet, n: u32) -> Option<Runs> {
-    let start = State { location: 0, values: [0; 3] };
-    let mut found = HashMap::from([(start, 0)]);
-    let mut states = vec![start];
+    let mut found = HashMap::from([(START, 0)]);
+    let mut states = vec![START];
     let mut members = Vec::new();
     let mut from = 0;
     while from < states.len() {
         let state = states[from];
         let here = &sheet.locations[state.location];
-        let mut ways = vec![(after_one_nth(sheet, &state), here.cost, here.reward)];
+        let mut ways = vec![(after_delay(sheet, &state, 1), here.cost, here.reward)];
         for edge in &sheet.edges {
             let next = after_edge(sheet, &state, edge, n);
             let (cost, reward) = (edge.cost * i64::from(n), edge.reward * i64::from(n));

@@ -71,7 +71,6 @@ pub fn shape_of(random: &mut Random, kind: &str) -> Shape {
     match kind {
         "tiny" => tiny_shape(random),
         "strict" => Shape { strict: 100, ..small },
-        "closed" => Shape { strict: 0, ..small },
         "large" => large_shape(random),
         "too many" => Shape {
             clocks: 3,
@@ -88,6 +87,14 @@ pub fn shape_of(random: &mut Random, kind: &str) -> Shape {
         "ring" => {
             let locations = 2 + random.below(11);
             ring_shape(random, locations)
+        }
+        "ring entered late" => {
+            let locations = 1 + random.below(11);
+            ring_shape(random, locations)
+        }
+        "slow ring" | "slow ring left" => {
+            let locations = 1 + random.below(11);
+            Shape { clocks: 3, ..ring_shape(random, locations) }
         }
         "dear ring" => {
             let locations = 11 + random.below(2);

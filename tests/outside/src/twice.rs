@@ -13,7 +13,7 @@ use crate::write::{write, Written};
 pub const LONGEST_RECORD: usize = 15;
 
 /// Copies an edge over the one that stands so far behind it. The places of both.
-fn paste(random: &mut Random, edges: &mut [Edge], distance: usize) -> [usize; 2] {
+pub fn paste(random: &mut Random, edges: &mut [Edge], distance: usize) -> [usize; 2] {
     let first = random.below(edges.len() - distance);
     edges[first + distance] = edges[first].clone();
     [first, first + distance]
@@ -53,7 +53,7 @@ pub fn twice(random: &mut Random, shape: &Shape) -> Sheet {
 }
 
 /// A fault that another question of the check finds. One in an edge is laid in each of these.
-fn lay_fault(random: &mut Random, sheet: &Written, edges: &[usize]) -> Vec<u8> {
+pub fn lay_fault(random: &mut Random, sheet: &Written, edges: &[usize]) -> Vec<u8> {
     let mut bytes = sheet.bytes.clone();
     match random.within(2, 11) {
         2 => bytes.resize(581, 0),

@@ -8,9 +8,9 @@ use lib.ListN.{length, replicate}
 use mir.Syntax.{w64}
 use mir.ValLaws.{toZ-ofZ}
 use Rattle.lasso.specs.Answer.{LaidOut}
+use Rattle.buffers.proofs.ClearedLaws.{front-stays, zeros-behind, length-stays}
 use Rattle.contract.specs.Plan.{Buffers}
 use Rattle.planner.specs.ContractTerms.{lentBuffers}
-use Rattle.planner.proofs.ListLaws.{front-stays, zeros-behind, length-stays}
 use Rattle.planner.proofs.AcceptLaws.{Written, accepted-planned}
 use Rattle.planner.proofs.GraphLaws.{settled-planned}
 use Rattle.planner.proofs.LassoLaws.{short, codes-pickable, never, laid-of}
@@ -84,8 +84,8 @@ returns c =
 add-all : tie.Need-add-all
 add-all c = omega (arith, few (c .before), S (L (c .before)) .pre .0 .formed .some)
 
-clear-nodes-requires : tie.Need-clear-nodes-requires
-clear-nodes-requires c κs = search needs
+clear-u32-requires : tie.Need-clear-u32-requires
+clear-u32-requires c κs = search needs
 
 permute-requires : tie.Need-permute-requires
 permute-requires c κs =
@@ -97,11 +97,8 @@ permute-requires c κs =
       room = omega (arith, y .formed .few, s .pre .1 .1 .1 .potentials);
     }
 
-clear-potentials-requires : tie.Need-clear-potentials-requires
-clear-potentials-requires c κs =
-    let p = c .before .before in
-    let s = S (L (K p)) in
-    omega (arith, s .pre .0 .formed .few, s .pre .1 .1 .1 .potentials, p .permute .ensures .sized)
+clear-i64-requires : tie.Need-clear-i64-requires
+clear-i64-requires c κs = search needs
 
 slice-aggregate-encode : tie.Need-slice-aggregate-encode
 slice-aggregate-encode c = search needs
@@ -112,11 +109,8 @@ encode-requires c κs =
     let s = S (L v) in
     codes-pickable (s .pre .0) (sized (L v)) (laid v) (now (s .args .steps)) (s .pre .1 .1 .1 .steps) (omega (arith, s .pre .0 .formed .some))
 
-clear-steps-requires : tie.Need-clear-steps-requires
-clear-steps-requires c κs =
-    let e = c .before .before .before in
-    let v = K (P (e .before)) in
-    omega (arith, few v, S (L v) .pre .0 .formed .some, S (L v) .pre .1 .1 .1 .steps, e .encode .ensures .sized)
+clear-u16-requires : tie.Need-clear-u16-requires
+clear-u16-requires c κs = search needs
 
 accepted-requires : tie.Need-accepted-requires
 accepted-requires c κs =
@@ -142,7 +136,7 @@ lent-to s = lentBuffers (now (s .args .nodes)) (now (s .args .potentials)) (now 
 abbrev left : tie.After-accepted → Buffers
 left c =
     let e = E (c .before) in
-    lentBuffers (P (e .before) .before .before .before .before .clear-nodes .last .0) (e .before .before .before .before .clear-potentials .last .0) (c .before .before .before .clear-steps .last .0)
+    lentBuffers (P (e .before) .before .before .before .before .clear-u32 .last .0) (e .before .before .before .before .clear-i64 .last .0) (c .before .before .before .clear-u16 .last .0)
 
 written : (c : tie.After-accepted) → let v = K (P (E (c .before) .before)) in let s = S (L v) in
     Written (now (s .args .least)) (now (s .args .order)) (now (s .args .code)) (arcs (L v)) (s .args .n) (v .laid .given .0 .0 + s .args .k) (lent-to s) (left c)
@@ -151,18 +145,18 @@ written c =
     let p = P (e .before) in
     let v = K p in
     let s = S (L v) in
-    let N = p .before .before .before .before .clear-nodes .ensures in
-    let D = e .before .before .before .before .clear-potentials .ensures in
-    let C = c .before .before .before .clear-steps .ensures in
+    let N = p .before .before .before .before .clear-u32 .ensures in
+    let D = e .before .before .before .before .clear-i64 .ensures in
+    let C = c .before .before .before .clear-u16 .ensures in
     let n = s .pre .0 .formed .few in
     record {
-      potentials = λ i h. front-stays D i (omega (arith, n)) ∙ p .permute .ensures .is i (omega (arith, n));
-      potentials-rest = λ i h. zeros-behind D i (omega (arith, n));
-      codes = λ i h. front-stays C i (omega (arith, few v)) ∙ e .encode .ensures .is i (omega (arith, few v));
-      steps-rest = λ i h. zeros-behind C i (omega (arith, few v));
-      nodes = λ i h. front-stays N i (omega (arith, n));
-      nodes-rest = λ i h. zeros-behind N i (omega (arith, n));
-      lengths = record { nodes = length-stays N; potentials = length-stays D ∙ p .permute .ensures .sized; steps = length-stays C ∙ e .encode .ensures .sized };
+      potentials = λ i h. front-stays _ _ _ D i (omega (arith, n)) ∙ p .permute .ensures .is i (omega (arith, n));
+      potentials-rest = λ i h _. zeros-behind _ _ _ D i (omega (arith, n));
+      codes = λ i h. front-stays _ _ _ C i (omega (arith, few v)) ∙ e .encode .ensures .is i (omega (arith, few v));
+      steps-rest = λ i h _. zeros-behind _ _ _ C i (omega (arith, few v));
+      nodes = λ i h. front-stays _ _ _ N i (omega (arith, n));
+      nodes-rest = λ i h _. zeros-behind _ _ _ N i (omega (arith, n));
+      lengths = record { nodes = length-stays _ _ _ N; potentials = length-stays _ _ _ D ∙ p .permute .ensures .sized; steps = length-stays _ _ _ C ∙ e .encode .ensures .sized };
     }
 
 returns-2 : tie.Need-returns-2
@@ -182,12 +176,12 @@ accept-spec =
     refused-requires
     returns
     add-all
-    clear-nodes-requires
+    clear-u32-requires
     permute-requires
-    clear-potentials-requires
+    clear-i64-requires
     slice-aggregate-encode
     encode-requires
-    clear-steps-requires
+    clear-u16-requires
     accepted-requires
     same-length
     same-length-2

@@ -4,7 +4,7 @@ use Prim.Native.Nat.{ℕ, _-_, _≤_}
 use native.Mathlib.Omega.{arith}
 use denote.Ref.{now}
 use Rattle.planner.specs.PrivatePromises.{Picked}
-use Rattle.planner.proofs.ListLaws.{picked-none, picked-more}
+use Rattle.planner.proofs.PickedLaws.{picked-none, picked-more}
 use Rattle.planner.proofs.output.encode.Statement.{statement}
 use Rattle.planner.proofs.output.encode.Tie as tie
 

@@ -9,7 +9,7 @@ use mir.ValLaws.{toZ-ofZ}
 use Rattle.walks.specs.Walk.{atℤ}
 use Rattle.walks.proofs.Tests.{fits}
 use Rattle.planner.specs.PrivatePromises.{Picked}
-use Rattle.planner.proofs.ListLaws.{picked-none, picked-more}
+use Rattle.planner.proofs.PickedLaws.{picked-none, picked-more}
 use Rattle.planner.proofs.output.permute.Statement.{statement}
 use Rattle.planner.proofs.output.permute.Tie as tie
 

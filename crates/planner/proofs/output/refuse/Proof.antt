@@ -2,19 +2,19 @@
 use mathlib.Core.Path.{_∙_}
 use denote.Ref.{now}
 use lib.IntN.{pos}
-use Rattle.planner.proofs.ListLaws.{cleared-whole}
+use Rattle.buffers.proofs.ClearedLaws.{cleared-whole}
 use borrow.Author.Needs.{needs}
 use Rattle.planner.proofs.output.refuse.Statement.{statement}
 use Rattle.planner.proofs.output.refuse.Tie as tie
 
-clear-nodes-requires : tie.Need-clear-nodes-requires
-clear-nodes-requires c κs = search needs
+clear-u32-requires : tie.Need-clear-u32-requires
+clear-u32-requires c κs = search needs
 
-clear-potentials-requires : tie.Need-clear-potentials-requires
-clear-potentials-requires c κs = search needs
+clear-i64-requires : tie.Need-clear-i64-requires
+clear-i64-requires c κs = search needs
 
-clear-steps-requires : tie.Need-clear-steps-requires
-clear-steps-requires c κs = search needs
+clear-u16-requires : tie.Need-clear-u16-requires
+clear-u16-requires c κs = search needs
 
 refused-requires : tie.Need-refused-requires
 refused-requires c κs = search needs
@@ -36,8 +36,8 @@ returns c =
     let s = d .before .before .before .before in (
       c .refused .ensures,
       (
-        d .clear-nodes .ensures .is ∙ cleared-whole 0 (now (s .args .nodes)),
-        (p .clear-potentials .ensures .is ∙ cleared-whole (pos 0) (now (s .args .potentials)), k .clear-steps .ensures .is ∙ cleared-whole 0 (now (s .args .steps))),
+        d .clear-u32 .ensures ∙ cleared-whole 0 (now (s .args .nodes)),
+        (p .clear-i64 .ensures ∙ cleared-whole (pos 0) (now (s .args .potentials)), k .clear-u16 .ensures ∙ cleared-whole 0 (now (s .args .steps))),
       ),
     )
 
@@ -45,9 +45,9 @@ pub refuse-spec : {M : Type 1} → statement M
 refuse-spec =
     tie.close
     (tie.spec
-    clear-nodes-requires
-    clear-potentials-requires
-    clear-steps-requires
+    clear-u32-requires
+    clear-i64-requires
+    clear-u16-requires
     refused-requires
     same-length
     same-length-2

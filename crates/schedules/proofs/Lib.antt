@@ -1,0 +1,16 @@
+pub mod ClosedLaws
+pub mod CornerBounds
+pub mod RunLaws
+pub mod CornerSteps
+pub mod CodeLaws
+pub mod WalkedRuns
+pub mod DelaysRise
+pub mod EdgeInCycle
+pub mod PairLaws
+pub mod TurnLaws
+pub mod FromStart
+pub mod WorkPlans
+pub mod PlanLoops
+pub mod Computes
+pub mod NumberPlans
+pub mod PlanSizes

@@ -1,0 +1,6 @@
+pub mod Closed
+pub mod Pairs
+pub mod Turning
+pub mod WholeRuns
+pub mod WorkPlan
+pub mod WalkTerms

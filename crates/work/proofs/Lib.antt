@@ -1,0 +1,7 @@
+pub mod WrittenLaws
+pub mod PairSteps
+pub mod EdgeSearch
+pub mod LassoSteps
+pub mod ClosedSheet
+pub mod Exits
+pub mod JustWhen
