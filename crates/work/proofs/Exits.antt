@@ -5,7 +5,7 @@ use mathlib.Core.Bool.{true, false}
 use mathlib.Core.List.{List, _++_}
 use Prim.Native.Nat.{ℕ, _+_, _≤_, _<_}
 use native.Mathlib.Omega.{arith}
-use lib.ListN.{length, take, length-replicate}
+use lib.ListN.{length, take, length-append, length-map, length-replicate}
 use lib.Seq.{slice, length-slice}
 use Rattle.sheet.specs.Questions.{checkOf}
 use Rattle.nodes.specs.Meaning.{meaning, layoutOf}
@@ -22,7 +22,7 @@ use Rattle.contract.proofs.JustWhen.{on-its-condition}
 use Rattle.work.specs.Work.{refusedWork, PairBuffers, RoomForPairs, holding, zeroPairs, WorkJudged, no-room, no-plan, strict, all-closed, WorkAccepted, WorkPassed, Worked}
 use Rattle.work.specs.PrivatePromises.{withPairs, LassoWritten}
 use Rattle.work.specs.declared.Lengths.{Lengths}
-use Rattle.work.proofs.WrittenLaws.{over-zeros}
+use Rattle.work.proofs.StoredLaws.{over-zeros}
 use Rattle.work.proofs.ClosedSheet.{some-clock}
 
 -- what a plan answers in some buffers that are long enough, it answers in all
@@ -34,10 +34,12 @@ answers-all l (explored h x v) c k = explored k x v
 number-of : {a : Lengths} {r : ℕ} → a ≡ refusedWork r → r ≡ a .refusal
 number-of e = sym (ap (λ (x : Lengths). x .refusal) e)
 
-held : (before : PairBuffers) {cleared after : PairBuffers} → cleared ≡ zeroPairs before → (ps : List Pair) → after ≡ withPairs 0 ps cleared → after ≡ holding ps before
-held before empty ps e = e ∙ ap (withPairs 0 ps) empty ∙ (λ i. record {
-  waits = over-zeros (waits ps) (length (before .waits)) i;
-  edges = over-zeros (edgeNumbers ps) (length (before .edges)) i;
+-- what is stored in buffers that are cleared, they hold
+held : (before : PairBuffers) {cleared after : PairBuffers} → cleared ≡ zeroPairs before → RoomForPairs before → (ps : List Pair) → length ps ≤ 2049
+    → after ≡ withPairs 0 ps cleared → after ≡ holding ps before
+held before empty room ps few e = e ∙ ap (withPairs 0 ps) empty ∙ (λ i. record {
+  waits = over-zeros (waits ps) (length (before .waits)) (omega (arith, few, room .waits, length-map ps (λ p. p .wait))) i;
+  edges = over-zeros (edgeNumbers ps) (length (before .edges)) (omega (arith, few, room .edges, length-map ps (λ p. p .edge))) i;
 })
 
 -- buffers that are cleared have as much room as before
@@ -103,6 +105,12 @@ module _ {bytes : List ℕ} {before : PairBuffers} {a : Lengths} where
       yes : PlanAnswers bytes 0
       yes = subst (PlanAnswers bytes) accepts (answers-all long (planned .judged))
 
+      abbrev stem : List Pair
+      stem = stemPairs (take (plan .s) (b' .steps)) (slice (plan .s) (plan .s + plan .m) (b' .steps))
+
+      abbrev cycle : List Pair
+      cycle = cyclePairs (slice (plan .s) (plan .s + plan .m) (b' .steps))
+
       work-accepted : WorkAccepted bytes before after a
       work-accepted = record {
         p = plan .p;
@@ -114,15 +122,14 @@ module _ {bytes : List ℕ} {before : PairBuffers} {a : Lengths} where
         codes = b' .steps;
         lasso = p .lasso;
         short = p .short;
-        stem = stemPairs (take (plan .s) (b' .steps)) (slice (plan .s) (plan .s + plan .m) (b' .steps));
-        cycle = cyclePairs (slice (plan .s) (plan .s + plan .m) (b' .steps));
+        stem = stem;
+        cycle = cycle;
         stem-is = refl;
         cycle-is = refl;
         stem-length = w .stem-length;
         cycle-length = w .cycle-length;
         room = w .few;
-        written = held before empty (stemPairs (take (plan .s) (b' .steps)) (slice (plan .s) (plan .s + plan .m) (b' .steps))
-            ++ cyclePairs (slice (plan .s) (plan .s + plan .m) (b' .steps))) (w .is);
+        written = held before empty (x .0) (stem ++ cycle) (omega (arith, length-append stem cycle, w .few)) (w .is);
         cost = p .lasso .cost;
         reward = p .lasso .reward;
         runs = number-plan (layoutOf bytes) (meaning bytes) (room bytes (x .1)) (sound bytes (x .1)) closed (some-clock bytes (x .1)) (p .lasso .stem) some-code (p .lasso .cycle);

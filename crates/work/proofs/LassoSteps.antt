@@ -4,59 +4,45 @@ use mathlib.Core.List.{List, _++_, map, map-append}
 use Prim.Native.Nat.{ℕ, _+_, _-_, _≤_}
 use native.Mathlib.Omega.{arith}
 use lib.ListN.{length, take, length-map, length-append, take-append-drop}
-use lib.Seq.{slice, take-take, length-take-le, length-slice}
-use Rattle.schedules.specs.Pairs.{Pair, pairsFrom, pairsOf}
+use lib.Seq.{sets, length-sets, slice, take-take, length-take-le, length-slice}
+use Rattle.schedules.specs.Pairs.{Pair, waits, edgeNumbers, pairsFrom, pairsOf}
 use Rattle.schedules.specs.Turning.{untilEdge, pastEdge, stemPairs, cyclePairs}
 use Rattle.schedules.specs.WalkTerms.{restFrom}
 use Rattle.schedules.proofs.PairLaws.{pairs-append, rest-short}
 use Rattle.schedules.proofs.PlanSizes.{lasso-few}
 use Rattle.work.specs.Work.{PairBuffers, RoomForPairs}
-use Rattle.work.specs.PrivatePromises.{writtenFrom, withPairs, RoomFrom, PairsWritten, LassoWritten}
+use Rattle.work.specs.PrivatePromises.{withPairs, RoomFrom, PairsWritten, LassoWritten}
 use Rattle.work.specs.declared.pairs.Progress.{Progress}
-use Rattle.work.proofs.WrittenLaws.{written-length, written-then}
+use Rattle.work.proofs.StoredLaws.{stored-then}
 use Rattle.work.proofs.EdgeSearch.{Turns}
 
 -- ---- pairs after pairs
-
-module _ (k : ℕ) (ps : List Pair) (f : Pair → ℕ) (l : List ℕ) (h : k + length ps ≤ length l) where
-  fits : k + length (map f ps) ≤ length l
-  fits = omega (arith, length-map ps f)
-
-  list-stays : length (writtenFrom k (map f ps) l) ≡ length l
-  list-stays = written-length k (map f ps) l fits
-
-  list-then : (qs : List Pair) → writtenFrom (k + length ps) (map f qs) (writtenFrom k (map f ps) l) ≡ writtenFrom k (map f (ps ++ qs)) l
-  list-then qs = ap (λ (n : ℕ). writtenFrom (k + n) (map f qs) (writtenFrom k (map f ps) l)) (sym (length-map ps f))
-      ∙ written-then k (map f ps) l fits (map f qs) ∙ ap (λ (x : List ℕ). writtenFrom k x l) (sym (map-append f ps qs))
 
 -- the pairs are written from the place k on, up to the place k'
 record Wrote (b b' : PairBuffers) (k : ℕ) (ps : List Pair) (k' : ℕ) : Type 0 where
   is : b' ≡ withPairs k ps b
   count : k' ≡ k + length ps
-  waits : k + length ps ≤ length (b .waits)
-  edges : k + length ps ≤ length (b .edges)
 
-wrote : {b b' : PairBuffers} {k w : ℕ} {codes : List ℕ} {r : Progress} → RoomFrom b k w codes → PairsWritten b b' k w codes r
-    → Wrote b b' k (pairsFrom w codes) (r .count)
-wrote room h = record { is = h .is; count = h .count; waits = room .waits; edges = room .edges }
+wrote : {b b' : PairBuffers} {k w : ℕ} {codes : List ℕ} {r : Progress} → PairsWritten b b' k w codes r → Wrote b b' k (pairsFrom w codes) (r .count)
+wrote h = record { is = h .is; count = h .count }
 
 module _ {b b' : PairBuffers} {k k' : ℕ} {ps : List Pair} (h : Wrote b b' k ps k') where
   waits-stay : length (b' .waits) ≡ length (b .waits)
-  waits-stay = ap (λ (x : PairBuffers). length (x .waits)) (h .is) ∙ list-stays k ps (λ p. p .wait) (b .waits) (h .waits)
+  waits-stay = ap (λ (x : PairBuffers). length (x .waits)) (h .is) ∙ length-sets (b .waits) k (waits ps)
 
   edges-stay : length (b' .edges) ≡ length (b .edges)
-  edges-stay = ap (λ (x : PairBuffers). length (x .edges)) (h .is) ∙ list-stays k ps (λ p. p .edge) (b .edges) (h .edges)
+  edges-stay = ap (λ (x : PairBuffers). length (x .edges)) (h .is) ∙ length-sets (b .edges) k (edgeNumbers ps)
 
   wrote-then : {b'' : PairBuffers} {k'' : ℕ} {qs : List Pair} → Wrote b' b'' k' qs k'' → Wrote b b'' k (ps ++ qs) k''
   wrote-then {b''} {k''} {qs} g = record {
-    is = g .is ∙ ap₂ (λ (j : ℕ) (x : PairBuffers). withPairs j qs x) (h .count) (h .is) ∙ both;
+    is = g .is ∙ ap₂ (λ (j : ℕ) (x : PairBuffers). withPairs j qs x) (h .count) (h .is)
+        ∙ (λ i. record { waits = both (λ p. p .wait) (b .waits) i; edges = both (λ p. p .edge) (b .edges) i });
     count = omega (arith, h .count, g .count, length-append ps qs);
-    waits = omega (arith, h .count, g .waits, waits-stay, length-append ps qs);
-    edges = omega (arith, h .count, g .edges, edges-stay, length-append ps qs);
   }
     where
-      both : withPairs (k + length ps) qs (withPairs k ps b) ≡ withPairs k (ps ++ qs) b
-      both = λ i. record { waits = list-then k ps (λ p. p .wait) (b .waits) (h .waits) qs i; edges = list-then k ps (λ p. p .edge) (b .edges) (h .edges) qs i }
+      both : (f : Pair → ℕ) (l : List ℕ) → sets (sets l k (map f ps)) (k + length ps) (map f qs) ≡ sets l k (map f (ps ++ qs))
+      both f l = ap (λ (n : ℕ). sets (sets l k (map f ps)) (k + n) (map f qs)) (sym (length-map ps f))
+          ∙ stored-then l k (map f ps) (map f qs) ∙ ap (sets l k) (sym (map-append f ps qs))
 
 -- ---- the three parts, of a stem of s codes and a cycle of m that is turned at the place t
 
@@ -103,7 +89,7 @@ module _ {C : List ℕ} {s m t : ℕ} (p : Parted C s m t) where
 
     module _ {b₁ : PairBuffers} {r₁ : Progress} (w₁ : PairsWritten b b₁ 0 0 (slice 0 t C) r₁) where
       first : Wrote b b₁ 0 (stemPairs stem cycle) (r₁ .count)
-      first = subst (λ (ps : List Pair). Wrote b b₁ 0 ps (r₁ .count)) first-pairs (wrote first-room w₁)
+      first = subst (λ (ps : List Pair). Wrote b b₁ 0 ps (r₁ .count)) first-pairs (wrote w₁)
 
       pub second-room : RoomFrom b₁ (r₁ .count) 0 (slice t (s + m) C)
       second-room = record {
@@ -114,7 +100,7 @@ module _ {C : List ℕ} {s m t : ℕ} (p : Parted C s m t) where
 
       module _ {b₂ : PairBuffers} {r₂ : Progress} (w₂ : PairsWritten b₁ b₂ (r₁ .count) 0 (slice t (s + m) C) r₂) where
         second : Wrote b₁ b₂ (r₁ .count) (pairsFrom 0 (slice t (s + m) C)) (r₂ .count)
-        second = wrote second-room w₂
+        second = wrote w₂
 
         third-count : length (pairsFrom (r₂ .wait) (slice s t C)) ≡ length (pairsFrom (restFrom 0 (slice t (s + m) C)) (slice s t C))
         third-count = ap (λ (w : ℕ). length (pairsFrom w (slice s t C))) (w₂ .wait)
@@ -128,7 +114,7 @@ module _ {C : List ℕ} {s m t : ℕ} (p : Parted C s m t) where
 
         module _ {b₃ : PairBuffers} {r₃ : Progress} (w₃ : PairsWritten b₂ b₃ (r₂ .count) (r₂ .wait) (slice s t C) r₃) where
           whole : Wrote b b₃ 0 (stemPairs stem cycle ++ cyclePairs cycle) (r₃ .count)
-          whole = wrote-then first (subst (λ (ps : List Pair). Wrote b₁ b₃ (r₁ .count) ps (r₃ .count)) turned (wrote-then second (wrote third-room w₃)))
+          whole = wrote-then first (subst (λ (ps : List Pair). Wrote b₁ b₃ (r₁ .count) ps (r₃ .count)) turned (wrote-then second (wrote w₃)))
             where
               turned : pairsFrom 0 (slice t (s + m) C) ++ pairsFrom (r₂ .wait) (slice s t C) ≡ cyclePairs cycle
               turned = ap (λ (w : ℕ). pairsFrom 0 (slice t (s + m) C) ++ pairsFrom w (slice s t C)) (w₂ .wait) ∙ other-pairs

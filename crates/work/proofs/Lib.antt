@@ -1,4 +1,4 @@
-pub mod WrittenLaws
+pub mod StoredLaws
 pub mod PairSteps
 pub mod EdgeSearch
 pub mod LassoSteps

@@ -5,17 +5,17 @@ use mathlib.Core.Bool.{Bool, cond}
 use mathlib.Core.List.{List, [], _∷_}
 use Prim.Native.Nat.{ℕ, suc, _+_, _≤_, _<_}
 use native.Mathlib.Nat.{add-zero}
+use native.Mathlib.Numerals.{add-one}
 use native.Mathlib.Omega.{arith}
 use borrow.Author.Tests.{eq-eqb, ne-eqb}
 use lib.ListN.{length, getD, set, length-set}
 use lib.Seq.{slice, slice-empty}
-use Rattle.schedules.specs.Pairs.{Pair, waits, edgeNumbers, unitsOf, pairsFrom}
+use Rattle.schedules.specs.Pairs.{Pair, unitsOf, pairsFrom}
 use Rattle.schedules.specs.WalkTerms.{restFrom}
 use Rattle.schedules.proofs.CodeLaws.{pairs-none, pairs-edge, pairs-delay, rest-none, rest-edge, rest-delay}
 use Rattle.schedules.proofs.PairLaws.{units-small}
 use Rattle.work.specs.Work.{PairBuffers, lentPairs}
 use Rattle.work.specs.PrivatePromises.{withPairs, RoomFrom, PairsWritten}
-use Rattle.work.proofs.WrittenLaws.{written-none, write-one}
 use Rattle.work.proofs.EdgeSearch.{slice-first}
 
 -- the pairs of all codes were to be written from the place k₀ on; k places are passed, w units wait, and some codes are left
@@ -44,12 +44,10 @@ module _ {before : PairBuffers} {k₀ w₀ : ℕ} {all : List ℕ} where
     pub place-left : code ≤ 31 → RoomFrom before k₀ w₀ all → (k < length W) × (k < length E)
     place-left l r = (omega (arith, edge-count l, r .waits, g .waits), omega (arith, edge-count l, r .edges, g .edges))
 
-    pub edge-comes : code ≤ 31 → RoomFrom before k₀ w₀ all → Going before k₀ w₀ all (lentPairs (set W k w) (set E k code)) (k + 1) 0 left
-    edge-comes l r = record {
-      same = (λ i. record {
-        waits = write-one k w (waits (pairsFrom 0 left)) W (place-left l r .0) i;
-        edges = write-one k code (edgeNumbers (pairsFrom 0 left)) E (place-left l r .1) i;
-      }) ∙ ap (λ (ps : List Pair). withPairs k ps (lentPairs W E)) (sym (pairs-edge w code left l)) ∙ g .same;
+    pub edge-comes : code ≤ 31 → Going before k₀ w₀ all (lentPairs (set W k w) (set E k code)) (k + 1) 0 left
+    edge-comes l = record {
+      same = ap (λ (j : ℕ). withPairs j (pairsFrom 0 left) (lentPairs (set W k w) (set E k code))) (add-one k)
+          ∙ ap (λ (ps : List Pair). withPairs k ps (lentPairs W E)) (sym (pairs-edge w code left l)) ∙ g .same;
       count = omega (arith, edge-count l);
       rest = sym (rest-edge w code left l) ∙ g .rest;
       waits = length-set W k w ∙ g .waits;
@@ -84,13 +82,10 @@ module _ {before : PairBuffers} {k₀ w₀ : ℕ} {all : List ℕ} where
   pub none-left : (C : List ℕ) (i t : ℕ) {reached : PairBuffers} {k w : ℕ} → i ≡ t → Going before k₀ w₀ all reached k w (slice i t C)
       → PairsWritten before reached k₀ w₀ all (record { count = k; wait = w })
   none-left C i t {reached} {k} {w} e h = record {
-    is = whole ∙ ap (λ (ps : List Pair). withPairs k ps reached) (sym (pairs-none w)) ∙ g .same;
+    is = ap (λ (ps : List Pair). withPairs k ps reached) (sym (pairs-none w)) ∙ g .same;
     count = omega (arith, g .count, ap length (pairs-none w));
     wait = sym (rest-none w) ∙ g .rest;
   }
     where
       g : Going before k₀ w₀ all reached k w []
       g = subst (Going before k₀ w₀ all reached k w) (ap (λ (j : ℕ). slice j t C) e ∙ slice-empty t C) h
-
-      whole : reached ≡ withPairs k [] reached
-      whole = λ i. record { waits = sym (written-none k (reached .waits)) i; edges = sym (written-none k (reached .edges)) i }

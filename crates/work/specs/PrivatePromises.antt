@@ -4,7 +4,8 @@ use mathlib.Core.Bool.{Bool, _&&_}
 use mathlib.Core.List.{List, _++_}
 use Prim.Native.Nat.{ℕ, _+_, _%_, _≤_, _<_}
 use lib.Dec.{eqb}
-use lib.ListN.{length, getD, take, drop}
+use lib.ListN.{length, getD}
+use lib.Seq.{sets}
 use Rattle.sheet.specs.Questions.{each}
 use Rattle.sheet.specs.Decoded.{blankLocation, blankEdge}
 use Rattle.sheet.specs.declared.Location.{Location}
@@ -34,13 +35,9 @@ pub record ClearedFrom (b : PairBuffers) : Type 0 where
   pub room : RoomForPairs before
   pub is : b ≡ zeroPairs before
 
--- l with xs from the place k on
-abbrev pub writtenFrom : ℕ → List ℕ → List ℕ → List ℕ
-writtenFrom k xs l = take k l ++ xs ++ drop (k + length xs) l
-
--- b with these pairs from the place k on
+-- b with these pairs stored from the place k on
 abbrev pub withPairs : ℕ → List Pair → PairBuffers → PairBuffers
-withPairs k pairs b = record { waits = writtenFrom k (waits pairs) (b .waits); edges = writtenFrom k (edgeNumbers pairs) (b .edges) }
+withPairs k pairs b = record { waits = sets (b .waits) k (waits pairs); edges = sets (b .edges) k (edgeNumbers pairs) }
 
 -- a wait of w so far, and codes: there is room for their pairs from the place k on, and the waits fit 16 bits
 pub record RoomFrom (b : PairBuffers) (k w : ℕ) (codes : List ℕ) : Type 0 where

@@ -1,10 +1,10 @@
 -- The bounds, and then the guards.
-use mathlib.Core.Path.{_≡_, sym, ap, _∙_}
+use mathlib.Core.Path.{sym, ap, _∙_}
 use mathlib.Core.Bool.{Bool, _&&_}
 use borrow.Author.Needs.{needs}
 use borrow.Author.Tests.{not-true, not-false}
 use Rattle.nodes.specs.Decoded.{decodedMeaning}
-use Rattle.schedules.specs.Closed.{boundsClosed, guardsClosed, isClosed}
+use Rattle.schedules.specs.Closed.{guardsClosed, isClosed}
 use Rattle.work.proofs.ClosedSheet.{bounds-are, guards-are}
 use Rattle.work.proofs.closed.is_closed.Statement.{statement}
 use Rattle.work.proofs.closed.is_closed.Tie as tie

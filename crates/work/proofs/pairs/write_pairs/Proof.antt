@@ -73,7 +73,7 @@ loop-again c =
         ⊎-elim
             (λ u. rw (u .1, u .2, u .3, u .4) (unit-comes (next p) (omega (arith, u .0))))
             (⊎-elim
-            (λ e. rw (e .2, e .3, e .4, e .5) (edge-comes (next p) (omega (arith, e .1)) (S p .pre .1 .1)))
+            (λ e. rw (e .2, e .3, e .4, e .5) (edge-comes (next p) (omega (arith, e .1))))
             (λ m. rw (m .2, m .3, m .4, m .5) (move-comes (next p) (omega (arith, m .1)) (λ q. omega (arith, m .0)))))
             (c .match .came),
       ),
