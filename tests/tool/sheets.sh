@@ -1,0 +1,88 @@
+# Every sheet to bytes and back, planned by the program and by the tool; every run replayed.
+
+sheets=0
+for file in sheets/*.txt; do
+  sheets=$((sheets + 1))
+  name=$(basename "$file")
+  answer=$(line answer "$file")
+  ends "$file encoded" 0 planner encode "$file"
+  cp "$work/out" "$work/first"
+  ends "$file decoded" 0 planner decode "$work/first"
+  cp "$work/out" "$work/text.txt"
+  planner encode "$work/text.txt" | cmp -s - "$work/first" || fail "$file: other bytes after decoding"
+  found=$(target/bin/plan <"$work/first" | paste -sd '|' | sed 's/|/ | /g')
+  expect "$file by the program" "$found" "$answer"
+  row=$(grep -F "| [$name]($name) |" sheets/README.md | awk -F ' [|] ' '{print $2}' || true)
+  expect "sheets/README.md on $name" "$row" "${answer// | /, }"
+
+  # the description, its bytes and both from standard input have one answer
+  case $answer in
+  ratio*) status=0 head=planned ;;
+  *) status=1 head=$answer ;;
+  esac
+  ends "$file planned" $status planner plan "$file"
+  expect "$file: the head" "$(head -1 "$work/out")" "$file: $head"
+  [ ! -s "$work/err" ] || fail "$file: something on standard error"
+  case $answer in
+  ratio*)
+    read -r _ p q _ _ nodes <<<"$answer"
+    holds "$file: the ratio" "$(cat "$work/out")" "ratio $p/$q, "
+    holds "$file: the nodes" "$(cat "$work/out")" "nodes $(printf "%'d" "$nodes" | sed 's/^\([0-9]\)\([0-9]\{3\}\)$/\1,\2/') of 2,048"
+    ;;
+  esac
+  sed 1d "$work/out" >"$work/plan"
+  ends "$file from standard input" $status planner plan - <"$file"
+  sed 1d "$work/out" | cmp -s - "$work/plan" || fail "$file: another answer from standard input"
+  ends "$file in order" 0 planner check "$file"
+  holds "$file: checked" "$(cat "$work/out")" "$file: in order: "
+  ends "$file as bytes" $status planner plan "$work/first"
+  expect "$file as bytes: lines" "$(wc -l <"$work/out")" "$(($(wc -l <"$work/plan") + 1))"
+done
+[ "$sheets" -gt 20 ] || fail "only $sheets sheets"
+
+runs=0
+for file in sheets/runs/*.txt; do
+  runs=$((runs + 1))
+  ends "$file" 0 planner replay "sheets/$(line sheet "$file")" "$file"
+  expect "$file" "$(cat "$work/out")" "$(line answer "$file")"
+done
+[ "$runs" -gt 10 ] || fail "only $runs runs"
+
+# in nths where the ratio is approached: near it, or the least that serves; a sheet that attains it in nths says so
+ends "in tenths" 0 planner plan sheets/beacon.txt --nths 10
+holds "in tenths" "$(cat "$work/out")" "approached: the cycle below waits in multiples of 1/10 and has 87/40, exactly 2.175, which is 7/40 more"
+ends "too coarse" 1 planner plan sheets/beacon.txt --nths 1 --svg "$work/none.svg"
+expect "too coarse" "$(head -1 "$work/out")" "sheets/beacon.txt: refused --nths 1"
+holds "too coarse" "$(cat "$work/out")" "--nths 2 is the least that serves (by the tool's own search)"
+[ ! -e "$work/none.svg" ] || fail "too coarse: a chart is written"
+ends "never" 1 planner plan sheets/never-back.txt --nths 1000
+holds "never" "$(cat "$work/out")" "no --nths up to 1000 serves (by the tool's own search)"
+ends "corner points" 0 planner plan sheets/never-back.txt
+holds "corner points" "$(cat "$work/out")" "not to be worked by: the corner points below are no run: in row 1, at edge 'leave' x = 2; expected x < 2"
+sed 's/when x >= 1/when x > 1/; s/^  cost 1$//' sheets/bench.txt >"$work/free.txt"
+ends "attained in halves" 0 planner plan "$work/free.txt"
+holds "attained in halves" "$(cat "$work/out")" "attained by the cycle below, which waits in multiples of 1/2 and keeps the strict bounds and guards (checked by replay)"
+
+# the loop of 14 where its corner points are no run
+cat >"$work/gain.txt" <<'END'
+clocks x
+location a
+  cost -1
+  x < 2
+edge idle: a -> a
+  when x > 1
+  reset x
+  cost 1
+edge work: a -> a
+  reset x
+  reward 1
+END
+ends "a loop that is no run" 1 planner plan "$work/gain.txt"
+holds "a loop that is no run" "$(cat "$work/out")" "its corner points are no run, and runs may only come near: in row 1, after the delay x = 2; expected x < 2 in location 'a'"
+holds "a loop that is no run, JSON" "$(planner plan "$work/gain.txt" --json || true)" '"loop":{"is":"corners",'
+holds "a loop that is a run, JSON" "$(planner plan sheets/feed-in.txt --json || true)" '"loop":{"is":"run",'
+holds "a loop that is no run: its basis" "$(planner plan "$work/gain.txt" || true)" "costs -1, earns 0 (checked by replay, with each bound and guard taken as one that may be reached)"
+holds "corner points: their basis" "$(planner plan sheets/beacon.txt)" "costs 8, earns 4 (checked by replay, with each bound and guard taken as one that may be reached)"
+holds "too coarse, JSON" "$(planner plan sheets/beacon.txt --nths 1 --json || true)" '"answer":"no run","nths":1,"least_nths":2}'
+holds "a run by its corner points, in thirds" "$(planner plan sheets/bench-strict-bound.txt --nths 3 --json)" '"nths":3,'
+holds "a work plan, in thirds" "$(planner plan sheets/bench.txt --nths 3 --json)" '"nths":3,'

@@ -1,0 +1,172 @@
+//! From the text of a certificate to its parts.
+
+use super::{Certificate, VERSION};
+use crate::sheet::hex::{from_hex, to_hex};
+use crate::text::fault::{Fault, Place};
+use crate::text::Mistake;
+use std::str::FromStr;
+
+/// The longest part of a wrong word that is told.
+const TOLD: usize = 24;
+
+const NODE: &str = "the number of a node, 0 to 4294967295, and its potential, a whole number of 64 bits";
+
+fn mistake(line: usize, what: String, expected: &str) -> Mistake {
+    Mistake { line, fault: Fault::new(Place::default(), what, expected) }
+}
+
+struct Reader<'a> {
+    lines: std::iter::Enumerate<std::str::Lines<'a>>,
+    /// The line that was read last; 1 before the first.
+    line: usize,
+}
+
+/// The certificate that a text holds. Its rules are not asked here.
+pub fn read(text: &str) -> Result<Certificate, Mistake> {
+    let mut reader = Reader { lines: text.lines().enumerate(), line: 1 };
+    reader.title()?;
+    let sheet = reader.entries("sheet", "bytes, each two of the digits 0 to 9 and a to f", bytes_of)?;
+    let (p, q) = reader.ratio()?;
+    let (nodes, potentials) = reader.nodes()?;
+    let stem = reader.entries("stem", "codes, each 0 to 65535", code_of)?;
+    let cycle = reader.entries("cycle", "codes, each 0 to 65535", code_of)?;
+    match reader.words() {
+        None => Ok(Certificate { sheet, p, q, nodes, potentials, stem, cycle }),
+        Some(words) => reader.found(words.first(), "nothing after the cycle"),
+    }
+}
+
+/// A number as it is written: no sign but '-', and no digit too many.
+fn number<T: FromStr + ToString>(word: &str) -> Option<T> {
+    word.parse().ok().filter(|number: &T| number.to_string() == word)
+}
+
+fn code_of(word: &str) -> Option<Vec<u16>> {
+    number(word).map(|code| vec![code])
+}
+
+/// Digits as they are written: lower case.
+fn bytes_of(word: &str) -> Option<Vec<u8>> {
+    from_hex(word).ok().filter(|bytes| to_hex(bytes) == word)
+}
+
+impl<'a> Reader<'a> {
+    /// The words of the next line that says something.
+    fn words(&mut self) -> Option<Vec<&'a str>> {
+        for (i, line) in self.lines.by_ref() {
+            self.line = i + 1;
+            let said = line.split('#').next().unwrap_or("");
+            let words: Vec<_> = said.split_ascii_whitespace().collect();
+            if !words.is_empty() {
+                return Some(words);
+            }
+        }
+        None
+    }
+
+    fn wrong<T>(&self, what: impl Into<String>, expected: &str) -> Result<T, Mistake> {
+        Err(mistake(self.line, what.into(), expected))
+    }
+
+    /// The word found is not the expected one; none is found where the line or the text ends.
+    fn found<T>(&self, word: Option<&&str>, expected: &str) -> Result<T, Mistake> {
+        match word {
+            Some(word) => {
+                let told: String = word.chars().take(TOLD).flat_map(char::escape_debug).collect();
+                let more = if word.chars().nth(TOLD).is_some() { "..." } else { "" };
+                self.wrong(format!("found '{told}{more}'"), expected)
+            }
+            None => self.wrong("found the end", expected),
+        }
+    }
+
+    /// The first line names the format and its version.
+    fn title(&mut self) -> Result<(), Mistake> {
+        let expected = format!("'planner certificate {VERSION}' on the first line");
+        let words = self.words().unwrap_or_default();
+        let ["planner", "certificate", version] = words[..] else {
+            return Err(mistake(1, "this is no certificate".to_string(), &expected));
+        };
+        if self.line > 1 {
+            return self.wrong("the format is named late", &expected);
+        }
+        match number::<u32>(version) {
+            Some(VERSION) => Ok(()),
+            Some(other) => self.wrong(format!("certificate version {other}"), &format!("version {VERSION}")),
+            None => self.found(Some(&version), &format!("version {VERSION}")),
+        }
+    }
+
+    /// What stands behind a keyword: so many words, and no more.
+    fn line_of<const N: usize>(&mut self, keyword: &str, form: &str) -> Result<[&'a str; N], Mistake> {
+        let words = self.words().unwrap_or_default();
+        match words.split_first() {
+            Some((first, rest)) if *first == keyword => match <[&str; N]>::try_from(rest) {
+                Ok(words) => Ok(words),
+                Err(_) => self.found(rest.get(N), form),
+            },
+            _ => self.found(words.first(), form),
+        }
+    }
+
+    /// A count may be any number: nothing is kept ready for it.
+    fn count(&mut self, keyword: &str) -> Result<usize, Mistake> {
+        let form = format!("a line like: {keyword} 7");
+        let [word] = self.line_of(keyword, &form)?;
+        match number::<u32>(word) {
+            Some(count) => Ok(count as usize),
+            None => self.found(Some(&word), &form),
+        }
+    }
+
+    /// As many entries as are counted, on as many lines as they take.
+    fn entries<T>(&mut self, keyword: &str, form: &str, of: fn(&str) -> Option<Vec<T>>) -> Result<Vec<T>, Mistake> {
+        let count = self.count(keyword)?;
+        let mut all = Vec::new();
+        while all.len() < count {
+            let expected = format!("{form}: {count} of the {keyword}, of which {} are read", all.len());
+            let words = self.words().unwrap_or_default();
+            if words.is_empty() {
+                return self.found(None, &expected);
+            }
+            for word in words {
+                all.extend(of(word).map_or_else(|| self.found(Some(&word), &expected), Ok)?);
+            }
+        }
+        if all.len() > count {
+            return self.wrong(format!("{} entries of the {keyword}", all.len()), &format!("{count}, as counted"));
+        }
+        Ok(all)
+    }
+
+    fn ratio(&mut self) -> Result<(i64, i64), Mistake> {
+        let form = "a line like: ratio 3 1, with whole numbers of 64 bits";
+        let words: [&str; 2] = self.line_of("ratio", form)?;
+        match words.map(number) {
+            [Some(p), Some(q)] => Ok((p, q)),
+            [None, _] => self.found(Some(&words[0]), form),
+            [_, None] => self.found(Some(&words[1]), form),
+        }
+    }
+
+    fn nodes(&mut self) -> Result<(Vec<u32>, Vec<i64>), Mistake> {
+        let count = self.count("nodes")?;
+        let (mut nodes, mut potentials) = (Vec::new(), Vec::new());
+        while nodes.len() < count {
+            let (node, potential) = self.node(&format!("{NODE}: {count} lines, of which {} are read", nodes.len()))?;
+            nodes.push(node);
+            potentials.push(potential);
+        }
+        Ok((nodes, potentials))
+    }
+
+    fn node(&mut self, expected: &str) -> Result<(u32, i64), Mistake> {
+        let words = self.words().unwrap_or_default();
+        let Some(node) = words.first().and_then(|word| number(word)) else { return self.found(words.first(), expected) };
+        let Some(potential) = words.get(1).and_then(|word| number(word)) else { return self.found(words.get(1), expected) };
+        match words.get(2) {
+            None => Ok((node, potential)),
+            more => self.found(more, expected),
+        }
+    }
+}

@@ -1,0 +1,42 @@
+//! The schedule of a lasso's corner points, in whole units.
+
+use super::lasso::{stepped, turned};
+use crate::schedule::{of_waits, Schedule, Visit};
+use crate::sheet::Sheet;
+use crate::stop::Stop;
+use crate::walk::Walk;
+
+/// A schedule of corner points, and at each of its edges the node where it is taken.
+#[derive(Debug, PartialEq, Eq)]
+pub struct Corners {
+    pub schedule: Schedule,
+    pub nodes: Vec<u32>,
+}
+
+/// Waits before edges, and where each edge is taken: a unit of delay adds 1 to the wait, a move takes no time.
+fn visits(codes: &[u16], walk: &Walk) -> (Vec<Visit>, Vec<u32>) {
+    let (mut visits, mut nodes, mut wait) = (Vec::new(), Vec::new(), 0);
+    for (code, node) in codes.iter().zip(&walk.nodes) {
+        match *code {
+            planner::UNIT => wait += 1,
+            planner::MOVE => {}
+            edge => {
+                visits.push(Visit { wait, edge: usize::from(edge) });
+                nodes.push(*node);
+                wait = 0;
+            }
+        }
+    }
+    (visits, nodes)
+}
+
+pub fn corners(sheet: &Sheet, bytes: &[u8], stem: &[u16], cycle: &[u16]) -> Result<Corners, Stop> {
+    let Some((stem, cycle)) = turned(stem, cycle) else {
+        return Err(Stop::Difference("the cycle of the lasso has no edge".to_string()));
+    };
+    let before = stepped(bytes, 0, &stem)?;
+    let round = stepped(bytes, before.end, &cycle)?;
+    let ((stem, mut nodes), (cycle, others)) = (visits(&stem, &before), visits(&cycle, &round));
+    nodes.extend(others);
+    Ok(Corners { schedule: of_waits(sheet, 1, &stem, &cycle), nodes })
+}

@@ -1,0 +1,76 @@
+//! The answer as a line of JSON. Its form is written down in README.md beside the sources.
+
+use super::{Gain, Outcome, Planned, Standing};
+use crate::fraction::decimal;
+use crate::input::Held;
+use crate::json::{list, string, Object};
+use crate::schedule::{sum, Row, Schedule};
+use crate::sheet::Sheet;
+
+fn ratio(upper: i64, lower: i64) -> String {
+    let d = crate::fraction::common_divisor(upper.into(), lower.into()).max(1) as i64;
+    let about = decimal(upper.into(), lower.into());
+    Object::new().value("p", upper / d).value("q", lower / d).value("about", about).end()
+}
+
+fn row(sheet: &Sheet, row: &Row) -> String {
+    let (location, edge) = (&sheet.locations[row.location].name, &sheet.edges[row.edge].name);
+    let object = Object::new().value("at", row.at).value("wait", row.wait).text("location", location).text("edge", edge);
+    object.value("cost", row.cost).value("reward", row.reward).end()
+}
+
+fn part(sheet: &Sheet, rows: &[Row]) -> String {
+    let sum = sum(rows);
+    let object = Object::new().value("time", sum.time).value("cost", sum.cost).value("reward", sum.reward);
+    object.value("rows", list(rows.iter().map(|found| row(sheet, found)))).end()
+}
+
+fn parts(object: Object, sheet: &Sheet, schedule: &Schedule) -> String {
+    let object = object.value("nths", schedule.nths);
+    object.value("stem", part(sheet, &schedule.stem)).value("cycle", part(sheet, &schedule.cycle)).end()
+}
+
+fn or_null(number: Option<i64>) -> String {
+    number.map_or("null".to_string(), |number| number.to_string())
+}
+
+fn schedule(sheet: &Sheet, planned: &Planned) -> String {
+    let (kind, basis) = match planned.standing {
+        Standing::Work => ("attained", "proved"),
+        Standing::Exact => ("attained", "replayed"),
+        Standing::Near => ("near", "replayed"),
+        Standing::Corners(..) => ("corners", "replayed"),
+    };
+    let object = Object::new().text("is", kind).text("rests_on", basis);
+    let object = object.value("ratio", ratio(planned.replayed.cost, planned.replayed.reward));
+    let object = match planned.standing {
+        Standing::Corners(_, least) => object.value("least_nths", or_null(least)),
+        _ => object,
+    };
+    parts(object, sheet, &planned.schedule)
+}
+
+/// The object, without a line end.
+pub fn json(held: &Held, outcome: &Outcome) -> String {
+    let none = Sheet::default();
+    let sheet = held.sheet().unwrap_or(&none);
+    let object = Object::new().text("file", held.name());
+    match outcome {
+        Outcome::Planned(planned) => {
+            let object = object.text("answer", "planned").value("ratio", ratio(planned.plan.p, planned.plan.q));
+            object.value("nodes", planned.plan.nodes.len()).value("schedule", schedule(sheet, planned)).end()
+        }
+        Outcome::Coarse { asked, least } => object.text("answer", "no run").value("nths", asked).value("least_nths", or_null(*least)).end(),
+        Outcome::Refused { refusal, why, gain } => {
+            let object = object.text("answer", "refused").value("refusal", refusal.number()).text("question", refusal.question());
+            let object = object.value("why", list(why.iter().map(|line| string(line))));
+            match gain {
+                Some(Gain { schedule, no_run }) => {
+                    let kind = Object::new().text("is", if no_run.is_none() { "run" } else { "corners" });
+                    object.value("loop", parts(kind, sheet, schedule)).end()
+                }
+                None => object.end(),
+            }
+        }
+    }
+}
