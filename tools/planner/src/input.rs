@@ -38,13 +38,6 @@ impl Held {
             Held::Refused { .. } => None,
         }
     }
-
-    pub fn bytes(&self) -> &[u8] {
-        match self {
-            Held::Sheet(source) => &source.bytes,
-            Held::Refused { bytes, .. } => bytes,
-        }
-    }
 }
 
 /// The name as it is printed.

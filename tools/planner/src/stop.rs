@@ -20,13 +20,15 @@ pub enum Stop {
 /// The exit status where an answer is printed.
 pub const DONE: u8 = 0;
 pub const REFUSED: u8 = 1;
+/// And where a text has mistakes, which a batch tells among its answers.
+pub const MISTAKEN: u8 = 3;
 
 impl Stop {
     pub fn status(&self) -> u8 {
         match self {
             Stop::NoSheet(_) => REFUSED,
             Stop::Usage(_) => 2,
-            Stop::Mistakes(_) => 3,
+            Stop::Mistakes(_) => MISTAKEN,
             Stop::Stream(_) | Stop::Closed => 4,
             Stop::Difference(_) => 70,
         }

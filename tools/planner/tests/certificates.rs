@@ -188,3 +188,11 @@ fn what_need_not_be_least_or_simple_is_accepted() {
         assert_eq!(read(&written(&other)), Ok(other));
     }
 }
+
+#[test]
+fn the_documented_rules_are_those_asked() {
+    let table = include_str!("../README.md").split_once("| rules | |").expect("the table of rules").1;
+    let rows = table.lines().skip(2).take_while(|line| line.starts_with('|'));
+    let named: Vec<_> = rows.filter_map(|row| row.split('|').nth(1)).flat_map(|cell| cell.split('`').skip(1).step_by(2)).collect();
+    assert_eq!(named, RULES);
+}

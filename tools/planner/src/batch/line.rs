@@ -5,7 +5,7 @@ use crate::input::{bytes, held, of_bytes, shown, Held};
 use crate::json::{list, string, Object};
 use crate::plan::{json::json, planned, Buffers, Outcome};
 use crate::sheet::hex::from_hex;
-use crate::stop::{Stop, DONE, REFUSED};
+use crate::stop::{Stop, DONE, MISTAKEN, REFUSED};
 use crate::text::{told::TOLD, Mistake};
 
 pub struct Line {
@@ -26,7 +26,7 @@ fn mistakes(name: &str, found: &[Mistake]) -> Line {
     let listed = list(found.iter().take(TOLD).map(mistake));
     let object = Object::new().text("file", name).text("answer", "mistakes").value("mistakes", listed);
     let json = object.value("more", found.len().saturating_sub(TOLD)).end();
-    Line { json, answer: "with mistakes".to_string(), status: 3 }
+    Line { json, answer: "with mistakes".to_string(), status: MISTAKEN }
 }
 
 /// A file that cannot be read, or a difference.
