@@ -2,19 +2,19 @@
 use mathlib.Core.Path.{_≡_, refl, sym, ap, ap₂, _∙_}
 use mathlib.Core.Bool.{Bool, true, false, cond}
 use mathlib.Core.List.{List, [], _∷_, map, zipWith}
-use Prim.Native.Nat.{ℕ, zero, suc, _+_, _*_, _/_, _%_, _≤_, _<_, max}
-use native.Mathlib.Nat.{mod-eq-of-lt, div-one}
+use Prim.Native.Nat.{ℕ, zero, suc, _≤_, _<_, max}
 use native.Mathlib.Omega.{arith}
 use borrow.Author.Tests.{ne-eqb}
-use lib.Arith.{digits-div, digits-mod}
 use lib.Dec.{eqb}
 use lib.ListN.{length, getD, take, List·getD-map}
+use lib.Seq.{ext-getD}
 use Rattle.automaton.specs.Tests.{oneMoreIf, occurs}
 use Rattle.automaton.specs.Ranks.{rank, closeUp, mask, largest}
 use Rattle.automaton.specs.Steps.{carryWhole, carryClass}
-use Rattle.automaton.proofs.Largest.{rank-length}
-use Rattle.nodes.specs.Numbers.{firstLayout, clocksFrom, bitsOf}
-use Rattle.region.specs.Arrays.{padded, packedClasses, closedEntry, risenClass}
+use Rattle.sheet.specs.Decoded.{filled}
+use Rattle.sheet.proofs.DecodeLaws.{filled-length, filled-at}
+use Rattle.nodes.specs.Numbers.{firstLayout, clocksFrom}
+use Rattle.region.specs.Arrays.{padded, risenClass}
 
 pub each-entry : {a b c x y z : ℕ} → a ≡ x → b ≡ y → c ≡ z → _≡_ {A = List ℕ} (a ∷ b ∷ c ∷ []) (x ∷ y ∷ z ∷ [])
 each-entry p q r = ap₂ _∷_ p (ap₂ _∷_ q (ap₂ _∷_ r refl))
@@ -89,46 +89,12 @@ largest-three xs h = sym (ap largest (sym (three xs h)) ∙ omega arith)
 pub largest-below : (b : ℕ) (xs : List ℕ) → length xs ≡ 3 → ((j : ℕ) → getD xs j 0 < b) → largest xs < b
 largest-below b xs l h = omega (arith, largest-three xs l, h 0, h 1, h 2)
 
--- three digits of two bits
-module _ (a b c : ℕ) (ha : a < 4) (hb : b < 4) (hc : c < 4) where
-  by-4 : a + 4 * b + 16 * c ≡ (c * 4 + b) * 4 + a
-  by-4 = omega arith
-
-  by-16 : a + 4 * b + 16 * c ≡ c * 16 + (a + 4 * b)
-  by-16 = omega arith
-
-  digit-0 : (a + 4 * b + 16 * c) % 4 ≡ a
-  digit-0 = ap (λ (x : ℕ). x % 4) by-4 ∙ digits-mod (c * 4 + b) ha
-
-  digit-1 : (a + 4 * b + 16 * c) / 4 % 4 ≡ b
-  digit-1 = ap (λ (x : ℕ). x / 4 % 4) by-4 ∙ ap (λ (x : ℕ). x % 4) (digits-div (c * 4 + b) ha) ∙ digits-mod c hb
-
-  digit-2 : (a + 4 * b + 16 * c) / 16 % 4 ≡ c
-  digit-2 = ap (λ (x : ℕ). x / 16 % 4) by-16 ∙ ap (λ (x : ℕ). x % 4) (digits-div c {m = 16} {r = a + 4 * b} (omega arith)) ∙ mod-eq-of-lt hc
-
--- the entry of the table, taken apart again
-module _ (a b c : ℕ) (ha : a < 4) (hb : b < 4) (hc : c < 4) where
-  entry : closedEntry (a + 4 * b + 16 * c) ≡ packedClasses (closeUp (a ∷ b ∷ c ∷ []))
-  unfolding closedEntry
-  entry = ap packedClasses (ap closeUp (ap₂ _∷_ (digit-0 a b c ha hb hc) (ap₂ _∷_ (digit-1 a b c ha hb hc) (ap₂ _∷_ (digit-2 a b c ha hb hc) refl))))
-
-  rank-below : (t : ℕ) → rank (a ∷ b ∷ c ∷ []) t < 4
-  rank-below t = omega (arith, rank-length (a ∷ b ∷ c ∷ []) t)
-
-  entry-bits : (e : ℕ) → e ≡ closedEntry (a + 4 * b + 16 * c) → _≡_ {A = List ℕ} (bitsOf e 2 0 ∷ bitsOf e 2 2 ∷ bitsOf e 2 4 ∷ []) (closeUp (a ∷ b ∷ c ∷ []))
-  unfolding closeUp
-  entry-bits e h =
-      let x = rank (a ∷ b ∷ c ∷ []) a in
-      let y = rank (a ∷ b ∷ c ∷ []) b in
-      let z = rank (a ∷ b ∷ c ∷ []) c in
-      let q : e ≡ x + 4 * y + 16 * z = h ∙ entry in
-      ap₂ _∷_ (ap (λ (w : ℕ). w % 4) (div-one e ∙ q) ∙ digit-0 x y z (rank-below a) (rank-below b) (rank-below c))
-      (ap₂ _∷_ (ap (λ (w : ℕ). w / 4 % 4) q ∙ digit-1 x y z (rank-below a) (rank-below b) (rank-below c))
-      (ap₂ _∷_ (ap (λ (w : ℕ). w / 16 % 4) q ∙ digit-2 x y z (rank-below a) (rank-below b) (rank-below c)) refl))
-
-pub closed-bits : (xs : List ℕ) → length xs ≡ 3 → ((j : ℕ) → getD xs j 0 < 4)
-    → (e : ℕ) → e ≡ closedEntry (getD xs 0 0 + 4 * getD xs 1 0 + 16 * getD xs 2 0) → _≡_ {A = List ℕ} (bitsOf e 2 0 ∷ bitsOf e 2 2 ∷ bitsOf e 2 4 ∷ []) (closeUp xs)
-closed-bits xs l h e q = entry-bits (getD xs 0 0) (getD xs 1 0) (getD xs 2 0) (h 0) (h 1) (h 2) e q ∙ ap closeUp (three xs l)
+-- an array that has been filled with the entries of a list is the list
+pub filled-whole : (xs : List ℕ) (n : ℕ) → length xs ≡ n → filled (λ j. getD xs j 0) 0 n n ≡ xs
+filled-whole xs n h =
+    let f : ℕ → ℕ = λ j. getD xs j 0 in
+    let l = filled-length f 0 n n in
+    ext-getD 0 (filled f 0 n n) xs (l ∙ sym h) (λ j k. filled-at f 0 n n j (omega arith) (omega (arith, l)))
 
 -- ---- what becomes of the clocks
 

@@ -8,12 +8,10 @@ use native.Mathlib.Omega.{arith}
 use borrow.Author.Tests.{eq-eqb, ne-eqb}
 use lib.Dec.{eqb}
 use lib.ListN.{length, getD, take}
-use lib.Seq.{take-all}
 use Rattle.automaton.specs.Tests.{occurs, every}
 use Rattle.automaton.specs.Bounds.{interval}
-use Rattle.automaton.specs.Ranks.{rank, mask}
+use Rattle.automaton.specs.Ranks.{mask}
 use Rattle.automaton.proofs.Tests.{&&-left, &&-right, &&-intro}
-use Rattle.automaton.proofs.Ranks.{rank-in, rank-out}
 
 pub every-none : (p : ℕ → ℕ → Bool) (xs : List ℕ) → every p (take 0 xs) ≡ true
 unfolding every
@@ -60,15 +58,19 @@ occurs-found v (x ∷ xs) (suc k) zero h l e = ap (λ (b : Bool). b || occurs v 
 occurs-found v (x ∷ xs) (suc k) (suc j) h l e =
     ap (λ (b : Bool). eqb v x || b) (occurs-found v xs k j (omega arith) (omega arith) e) ∙ some-more (eqb v x)
 
+either-first : (a b c : Bool) → a || (b || c) ≡ b || (a || c)
+either-first true true c = refl
+either-first true false c = refl
+either-first false b c = refl
+
+pub occurs-next : (v : ℕ) (xs : List ℕ) (j : ℕ) → j < length xs → eqb v (getD xs j 0) || occurs v (take j xs) ≡ occurs v (take (suc j) xs)
+occurs-next v [] j h = absurd (omega arith)
+occurs-next v (x ∷ xs) zero h = refl
+occurs-next v (x ∷ xs) (suc j) h =
+    either-first (eqb v (getD xs j 0)) (eqb v x) (occurs v (take j xs)) ∙ ap (λ (b : Bool). eqb v x || b) (occurs-next v xs j (omega arith))
+
 occurs-suc : (v : ℕ) (xs : List ℕ) (j : ℕ) → j < length xs → occurs v (take j xs) ≡ false → (v ≡ getD xs j 0 → ⊥) → occurs v (take (suc j) xs) ≡ false
-occurs-suc v [] j h e n = absurd (omega arith)
-occurs-suc v (x ∷ xs) zero h e n = ap (λ (b : Bool). b || false) (ne-eqb v x n)
-occurs-suc v (x ∷ xs) (suc j) h e n = both (eqb v x) e (λ o. occurs-suc v xs j (omega arith) o n)
-  where
-    both : (b : Bool) → b || occurs v (take j xs) ≡ false → (occurs v (take j xs) ≡ false → occurs v (take (suc j) xs) ≡ false)
-        → b || occurs v (take (suc j) xs) ≡ false
-    both true e f = e
-    both false e f = f e
+occurs-suc v xs j h e n = sym (occurs-next v xs j h) ∙ ap₂ _||_ (ne-eqb v (getD xs j 0) n) e
 
 pub occurs-more : (v : ℕ) (xs : List ℕ) (j : ℕ) → j < length xs → occurs v (take j xs) ≡ false → (v ≡ getD xs j 0 → ⊥)
     → occurs v (take (j + 1) xs) ≡ false
@@ -76,18 +78,6 @@ occurs-more v xs j h e n = ap (λ (m : ℕ). occurs v (take m xs)) (add-one j) �
 
 pub occurs-all : (v : ℕ) (xs : List ℕ) (k j : ℕ) → j ≤ k → k ≤ j → occurs v (take j xs) ≡ false → occurs v (take k xs) ≡ false
 occurs-all v xs k j h l e = let q : k ≡ j = omega arith in ap (λ (n : ℕ). occurs v (take n xs)) q ∙ e
-
--- ---- ranks
-
-module _ (xs : List ℕ) (three : length xs ≡ 3) (v n : ℕ) (so-far : n ≡ rank xs v) where
-  first-three : occurs (v + 1) (take 3 xs) ≡ occurs (suc v) xs
-  first-three = ap₂ occurs (add-one v) (take-all 3 xs (omega arith))
-
-  pub rank-counts : occurs (v + 1) (take 3 xs) ≡ true → n + 1 ≡ rank xs (v + 1)
-  rank-counts o = add-one n ∙ ap suc so-far ∙ sym (ap (rank xs) (add-one v) ∙ rank-in xs v (sym first-three ∙ o))
-
-  pub rank-passes : occurs (v + 1) (take 3 xs) ≡ false → n ≡ rank xs (v + 1)
-  rank-passes o = so-far ∙ sym (ap (rank xs) (add-one v) ∙ rank-out xs v (sym first-three ∙ o))
 
 -- ---- two lists entry by entry
 

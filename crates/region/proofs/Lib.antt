@@ -1,6 +1,6 @@
-pub mod TableLaws
 pub mod BitLaws
 pub mod ClockLaws
+pub mod DigitLaws
 pub mod ArrayLaws
 pub mod NodeLaws
 pub mod EdgeLaws

@@ -88,11 +88,11 @@ unfolding nodeOf
 corner-below k x = mod-lt _ (lit< tt)
 
 module _ (n : Node) (k x : ℕ) (is : n ≡ inArrays (nodeOf firstLayout k x)) where
-  pub corner-of : n .corner < 4
-  corner-of = subst (λ (m : Node). m .corner < 4) (sym is) (corner-below k x)
+  pub corner-of : n .corner < 8
+  corner-of = let q : n .corner < 4 = subst (λ (m : Node). m .corner < 4) (sym is) (corner-below k x) in omega arith
 
-  pub class-of : (j : ℕ) → getD (n .region .class) j 0 < 4
-  class-of j = subst (λ (m : Node). getD (m .region .class) j 0 < 4) (sym is) (class-below k x j)
+  pub class-of : (j : ℕ) → getD (n .region .class) j 0 < 8
+  class-of j = let q : getD (n .region .class) j 0 < 4 = subst (λ (m : Node). getD (m .region .class) j 0 < 4) (sym is) (class-below k x j) in omega arith
 
   pub whole-of : (j : ℕ) → getD (n .region .whole) j 0 < 16
   whole-of j = subst (λ (m : Node). getD (m .region .whole) j 0 < 16) (sym is) (whole-below k x j)

@@ -1,10 +1,10 @@
--- Nodes by value, in arrays of three, and what becomes of them: only functions inside the crate are told by these.
+-- Nodes by value, in arrays of three, what becomes of them, and the numbers that ranks are worked out by: only functions inside the crate are told by these.
 use mathlib.Core.Bool.{Bool, cond, _&&_}
 use mathlib.Core.List.{List, [], _∷_, map, zipWith}
-use Prim.Native.Nat.{ℕ, suc, _+_, _*_, _/_, _%_}
+use Prim.Native.Nat.{ℕ, zero, suc, _+_, _*_}
 use lib.Dec.{ltb}
 use lib.ListN.{getD, take}
-use Rattle.automaton.specs.Tests.{every}
+use Rattle.automaton.specs.Tests.{oneMoreIf, occurs, every}
 use Rattle.automaton.specs.Bounds.{interval, upperHolds, lowerHolds, ifPresent}
 use Rattle.automaton.specs.Ranks.{rank, closeUp, mask}
 use Rattle.automaton.specs.Nodes as automaton
@@ -36,12 +36,18 @@ fromArrays n = record {
 abbrev pub clockPart : ℕ → ℕ → ℕ → ℕ → ℕ → ℕ
 clockPart x clocks j width at = cond (ltb j clocks) (bitsOf x width at) 0
 
--- "index class 0 + 4 times class 1 + 16 times class 2, entry packed alike"
-abbrev pub packedClasses : List ℕ → ℕ
-packedClasses ks = getD ks 0 0 + 4 * getD ks 1 0 + 16 * getD ks 2 0
+-- n hexadecimal digits, digit 0 the lowest
+unfoldable pub hexadecimal : (ℕ → ℕ) → ℕ → ℕ
+hexadecimal d zero = 0
+hexadecimal d (suc n) = d 0 + 16 * hexadecimal (λ v. d (suc v)) n
 
-unfoldable pub closedEntry : ℕ → ℕ
-closedEntry i = packedClasses (closeUp (i % 4 ∷ i / 4 % 4 ∷ i / 16 % 4 ∷ []))
+-- of the values below 8: digit v is 1 where v occurs, and 0 elsewhere
+unfoldable pub valueDigits : List ℕ → ℕ
+valueDigits xs = hexadecimal (λ v. oneMoreIf (occurs v xs) 0) 8
+
+-- "The ranks are worked out": digit t is the rank of t
+unfoldable pub rankDigits : List ℕ → ℕ
+rankDigits xs = hexadecimal (rank xs) 8
 
 -- the intervals of the first clocks
 abbrev pub intervalsIn : ℕ → Region → List ℕ

@@ -13,7 +13,7 @@ use sheet::Location;
 
 // Each rank is used, and the corner is one of the region's.
 fn is_cornered(class: [u8; 3], corner: u8) -> bool
-    requires { ⌜ ((j : ℕ) → getD class j 0 < 4) ⌝ }
+    requires { ⌜ ((j : ℕ) → getD class j 0 < 8) ⌝ }
     ensures { λ r. ⌜ r ≡ usesEachRank class && leb corner (largest class) ⌝ }
 {
     let g = crate::ranks::largest_of(class);

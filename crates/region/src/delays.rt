@@ -45,7 +45,7 @@ pub fn unit_step(number: u32, clocks: u8, location: Location) -> Stepped
 
 // One class more, for a clock that the sheet has.
 fn risen_class(clocks: usize, j: usize, c: u8) -> u8
-    requires { ⌜ c < 4 ⌝ }
+    requires { ⌜ c < 8 ⌝ }
     ensures { λ r. ⌜ r ≡ risenClass clocks j c ⌝ }
 {
     if j < clocks { c + 1 } else { 0 }
@@ -53,7 +53,7 @@ fn risen_class(clocks: usize, j: usize, c: u8) -> u8
 
 // All classes rise by one, and the corner.
 fn after_rise(node: Node, clocks: usize) -> Node
-    requires { ⌜ (node .corner < 4) × ((j : ℕ) → getD (node .region .class) j 0 < 4) ⌝ }
+    requires { ⌜ (node .corner < 8) × ((j : ℕ) → getD (node .region .class) j 0 < 8) ⌝ }
     ensures { λ r. ⌜ r ≡ afterRise clocks node ⌝ }
 {
     let region = node.region;

@@ -45,7 +45,7 @@ fn masked(region: Region, reset: u8) -> Region
 
 // Where an edge leads: emptied ranks close up, and the corner with them.
 fn after_edge(node: Node, target: u8, reset: u8) -> Node
-    requires { ⌜ (node .corner < 4) × ((j : ℕ) → getD (node .region .class) j 0 < 4) ⌝ }
+    requires { ⌜ (node .corner < 8) × ((j : ℕ) → getD (node .region .class) j 0 < 8) ⌝ }
     ensures { λ r. ⌜ r ≡ afterEdge node target reset ⌝ }
 {
     let left = masked(node.region, reset);
@@ -53,10 +53,11 @@ fn after_edge(node: Node, target: u8, reset: u8) -> Node
     let ranks = left.class;
     let class = crate::ranks::close_up(ranks);
     let region = Region { whole, class };
+    let corner = crate::ranks::rank_of(ranks, node.corner);
     Node {
         location: target,
         region,
-        corner: crate::ranks::rank_of(ranks, node.corner),
+        corner,
     }
 }
 

@@ -10,7 +10,8 @@ largest-of-requires : tie.Need-largest-of-requires
 largest-of-requires c κs = search needs
 
 rank-of-requires : tie.Need-rank-of-requires
-rank-of-requires c κs = omega (arith, c .largest-of .ensures, largest-below 4 (c .before .args .class) (search needs) (c .before .pre))
+rank-of-requires c κs =
+    (c .before .pre, omega (arith, c .largest-of .ensures, largest-below 8 (c .before .args .class) (search needs) (c .before .pre)))
 
 returns : tie.Need-returns
 returns c =

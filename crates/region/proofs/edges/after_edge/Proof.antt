@@ -1,10 +1,12 @@
 -- The masked region, closed up.
-use mathlib.Core.Path.{sym, ap, _∙_, subst}
-use Prim.Native.Nat.{_<_}
+use mathlib.Core.Path.{_≡_, sym, ap, _∙_, subst}
+use Prim.Native.Nat.{ℕ, _<_}
 use lib.ListN.{getD}
 use Rattle.automaton.specs.Ranks.{rank, closeUp}
 use Rattle.sheet.specs.Maps.{stands}
+use Rattle.region.specs.Arrays.{maskedRegion}
 use Rattle.region.specs.declared.Region.{Region}
+use Rattle.region.specs.declared.Node.{Node}
 use Rattle.region.proofs.ClockLaws.{mask-below}
 use borrow.Author.Needs.{needs}
 use Rattle.region.proofs.edges.after_edge.Statement.{statement}
@@ -13,16 +15,23 @@ use Rattle.region.proofs.edges.after_edge.Tie as tie
 masked-requires : tie.Need-masked-requires
 masked-requires c κs = search needs
 
+-- a reset raises no class
+left-low : (n : Node) (reset : ℕ) → ((j : ℕ) → getD (n .region .class) j 0 < 8) → (m : Region) → m ≡ maskedRegion reset (n .region)
+    → (j : ℕ) → getD (m .class) j 0 < 8
+left-low n reset low m is j = subst (λ (r : Region). getD (r .class) j 0 < 8) (sym is) (mask-below 8 (stands reset) (n .region .class) low j)
+
 close-up-requires : tie.Need-close-up-requires
 close-up-requires c κs =
     let masked = c .before .before .masked in
     let args = c .before .before .before .args in
-    let pre = c .before .before .before .pre in
-    λ j. subst (λ (m : Region). getD (m .class) j 0 < 4) (sym (masked .ensures))
-    (mask-below 4 (stands (args .reset)) (args .node .region .class) (pre .1) j)
+    left-low (args .node) (args .reset) (c .before .before .before .pre .1) (masked .result) (masked .ensures)
 
 rank-of-requires : tie.Need-rank-of-requires
-rank-of-requires c κs = search needs
+rank-of-requires c κs =
+    let masked = c .before .before .before .masked in
+    let args = c .before .before .before .before .args in
+    let pre = c .before .before .before .before .pre in
+    (left-low (args .node) (args .reset) (pre .1) (masked .result) (masked .ensures), pre .0)
 
 returns : tie.Need-returns
 returns c =

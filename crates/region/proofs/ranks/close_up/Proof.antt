@@ -1,71 +1,90 @@
--- The entry of the table, taken apart again.
+-- Entry by entry.
+use mathlib.Core.Path.{_≡_, refl, sym, ap, ap₂, _∙_}
+use mathlib.Core.List.{List}
+use Prim.Native.Nat.{ℕ, _*_, _-_, _≤_}
 use native.Mathlib.Omega.{arith}
-use Rattle.region.proofs.ArrayLaws.{closed-bits}
+use lib.ListN.{length, getD, set, List·getD-map}
+use Rattle.automaton.specs.Ranks.{rank, closeUp}
+use Rattle.automaton.proofs.Ranks.{length-close}
+use Rattle.sheet.specs.Decoded.{filled}
+use Rattle.sheet.proofs.DecodeLaws.{filled-more}
+use Rattle.nodes.specs.Numbers.{bitsOf}
+use Rattle.region.proofs.ArrayLaws.{filled-whole}
+use Rattle.region.proofs.DigitLaws.{rank-at}
 use borrow.Author.Needs.{needs}
 use Rattle.region.proofs.ranks.close_up.Statement.{statement}
 use Rattle.region.proofs.ranks.close_up.Tie as tie
 
-array-read-closed-entry : tie.Need-array-read-closed-entry
-array-read-closed-entry c = search needs
+abbrev Inv-loop : tie.InvT-loop
+Inv-loop class digits closed₀ j₀ closed j = (j ≤ 3) × (closed ≡ filled (λ i. getD (closeUp class) i 0) 0 3 j)
 
-array-read-closed-entry-2 : tie.Need-array-read-closed-entry-2
-array-read-closed-entry-2 c = search needs
+abbrev μ-loop : tie.MeasureT-loop
+μ-loop class digits closed₀ j₀ closed j = 3 - j
 
-mul-closed-entry : tie.Need-mul-closed-entry
-mul-closed-entry c = omega (arith, c .pre 0, c .pre 1, c .pre 2)
+rank-digits-requires : tie.Need-rank-digits-requires Inv-loop μ-loop
+rank-digits-requires c κs = c .pre
 
-add-closed-entry : tie.Need-add-closed-entry
-add-closed-entry c = omega (arith, c .pre 0, c .pre 1, c .pre 2)
+loop-holds : tie.Need-loop-holds Inv-loop μ-loop
+unfolding filled
+loop-holds c = (search needs, refl)
 
-array-read-closed-entry-3 : tie.Need-array-read-closed-entry-3
-array-read-closed-entry-3 c = search needs
+array-read-bits : tie.Need-array-read-bits Inv-loop μ-loop
+array-read-bits c = search needs
 
-mul-closed-entry-2 : tie.Need-mul-closed-entry-2
-mul-closed-entry-2 c = omega (arith, c .pre 0, c .pre 1, c .pre 2)
+cast-bits : tie.Need-cast-bits Inv-loop μ-loop
+cast-bits c = search needs
 
-add-closed-entry-2 : tie.Need-add-closed-entry-2
-add-closed-entry-2 c = omega (arith, c .pre 0, c .pre 1, c .pre 2)
+mul-bits : tie.Need-mul-bits Inv-loop μ-loop
+mul-bits c = omega (arith, c .before .before .before .pre (c .before .loop .j))
 
-cast-closed-entry : tie.Need-cast-closed-entry
-cast-closed-entry c = omega (arith, c .pre 0, c .pre 1, c .pre 2)
+bits-requires : tie.Need-bits-requires Inv-loop μ-loop
+bits-requires c κs = omega (arith, c .before .before .before .pre (c .before .loop .j))
 
-closed-entry-requires : tie.Need-closed-entry-requires
-closed-entry-requires c κs = omega (arith, c .pre 0, c .pre 1, c .pre 2)
+array-write-closed : tie.Need-array-write-closed Inv-loop μ-loop
+array-write-closed c = search needs
 
-cast-entry : tie.Need-cast-entry
-cast-entry c = search needs
+add-j : tie.Need-add-j Inv-loop μ-loop
+add-j c = search needs
 
-bits-requires : tie.Need-bits-requires
-bits-requires c κs = search needs
+loop-less : tie.Need-loop-less Inv-loop μ-loop
+loop-less c = search needs
 
-bits-requires-2 : tie.Need-bits-requires-2
-bits-requires-2 c κs = search needs
+loop-again : tie.Need-loop-again Inv-loop μ-loop
+unfolding closeUp rank
+loop-again c =
+    let l = c .before .before .loop in
+    let xs = c .before .before .before .before .args .t1 in
+    let h : length xs ≡ 3 = search needs in
+    let digits = c .before .before .before .rank-digits in
+    let entry = c .bits .ensures ∙ ap (λ (x : ℕ). bitsOf x 4 (4 * getD xs (l .j) 0)) (digits .ensures)
+    ∙ rank-at xs (getD xs (l .j) 0) (c .before .before .before .before .pre (l .j)) in (
+      search needs,
+      ap₂ (λ (zs : List ℕ) (v : ℕ). set zs (l .j) v) (l .inv .1) (entry ∙ sym (List·getD-map (rank xs) xs (l .j) 0))
+          ∙ filled-more (λ i. getD (closeUp xs) i 0) 0 3 (l .j),
+    )
 
-bits-requires-3 : tie.Need-bits-requires-3
-bits-requires-3 c κs = search needs
-
-returns : tie.Need-returns
+returns : tie.Need-returns Inv-loop μ-loop
 returns c =
-    let args = c .before .before .before .before .args in
-    let pre = c .before .before .before .before .pre in
-    let closed-entry = c .before .before .before .closed-entry in
-    cc (closed-bits (args .t1) (search needs) (pre) (closed-entry .result) (closed-entry .ensures))
+    let l = c .before .loop in
+    let xs = c .before .before .before .args .t1 in
+    let h : length xs ≡ 3 = search needs in
+    let e : l .j ≡ 3 = omega arith in
+    l .inv .1 ∙ ap (filled (λ i. getD (closeUp xs) i 0) 0 3) e ∙ filled-whole (closeUp xs) 3 (length-close xs ∙ h)
 
 pub close-up-spec : {M : Type 1} → statement M
 close-up-spec =
     tie.close
     (tie.spec
-    array-read-closed-entry
-    array-read-closed-entry-2
-    mul-closed-entry
-    add-closed-entry
-    array-read-closed-entry-3
-    mul-closed-entry-2
-    add-closed-entry-2
-    cast-closed-entry
-    closed-entry-requires
-    cast-entry
+    Inv-loop
+    μ-loop
+    rank-digits-requires
+    loop-holds
+    array-read-bits
+    cast-bits
+    mul-bits
     bits-requires
-    bits-requires-2
-    bits-requires-3
+    array-write-closed
+    add-j
+    loop-less
+    loop-again
     returns)
