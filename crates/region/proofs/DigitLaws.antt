@@ -131,7 +131,7 @@ module _ (xs : List ℕ) where
   rank-below : (t : ℕ) → t < 8 → rank xs t < 16
   rank-below t h = omega (arith, rank-grows xs 0 t (omega arith), rank-zero xs)
 
-  -- the ranks a place higher, and 1 where a value occurs, are the ranks again: all but the value 0 is counted, and the last rank leaves the eight digits
+  -- the ranks a place higher, and 1 where a value occurs, are the ranks again: the value 0 is not counted, and the last rank leaves the eight digits
   moved-up : valueDigits xs + 16 * rankDigits xs ≡ one 0 + rankDigits xs + 0x1_0000_0000 * rank xs 7
   unfolding valueDigits rankDigits hexadecimal rank one
   moved-up = omega (arith, one-more 0, one-more 1, one-more 2, one-more 3, one-more 4, one-more 5, one-more 6)
@@ -156,6 +156,6 @@ module _ (xs : List ℕ) where
       rest : x / 16 % 0x1000_0000 * 16 + 16 * rankDigits xs ≡ rankDigits xs + 0x1_0000_0000 * rank xs 7
       rest = omega (arith, e, moved-up, above-0 x (omega (arith, e, values-low)), value-0, ap (λ (y : ℕ). y % 16) e)
 
-  pub rank-at : (t : ℕ) → t < 8 → bitsOf (rankDigits xs) 4 (4 * t) ≡ rank xs t
+  pub rank-at : (x : ℕ) → x ≡ rankDigits xs → (t : ℕ) → t < 8 → bitsOf x 4 (4 * t) ≡ rank xs t
   unfolding rankDigits
-  rank-at = digit-at (rank xs) 8 rank-below
+  rank-at x e t h = ap (λ (y : ℕ). bitsOf y 4 (4 * t)) e ∙ digit-at (rank xs) 8 rank-below t h

@@ -1,14 +1,13 @@
 -- Entry by entry.
 use mathlib.Core.Path.{_≡_, refl, sym, ap, ap₂, _∙_}
 use mathlib.Core.List.{List}
-use Prim.Native.Nat.{ℕ, _*_, _-_, _≤_}
+use Prim.Native.Nat.{ℕ, _-_, _≤_}
 use native.Mathlib.Omega.{arith}
 use lib.ListN.{length, getD, set, List·getD-map}
 use Rattle.automaton.specs.Ranks.{rank, closeUp}
 use Rattle.automaton.proofs.Ranks.{length-close}
 use Rattle.sheet.specs.Decoded.{filled}
 use Rattle.sheet.proofs.DecodeLaws.{filled-more}
-use Rattle.nodes.specs.Numbers.{bitsOf}
 use Rattle.region.proofs.ArrayLaws.{filled-whole}
 use Rattle.region.proofs.DigitLaws.{rank-at}
 use borrow.Author.Needs.{needs}
@@ -56,8 +55,7 @@ loop-again c =
     let xs = c .before .before .before .before .args .t1 in
     let h : length xs ≡ 3 = search needs in
     let digits = c .before .before .before .rank-digits in
-    let entry = c .bits .ensures ∙ ap (λ (x : ℕ). bitsOf x 4 (4 * getD xs (l .j) 0)) (digits .ensures)
-    ∙ rank-at xs (getD xs (l .j) 0) (c .before .before .before .before .pre (l .j)) in (
+    let entry = c .bits .ensures ∙ rank-at xs (digits .result) (digits .ensures) (getD xs (l .j) 0) (c .before .before .before .before .pre (l .j)) in (
       search needs,
       ap₂ (λ (zs : List ℕ) (v : ℕ). set zs (l .j) v) (l .inv .1) (entry ∙ sym (List·getD-map (rank xs) xs (l .j) 0))
           ∙ filled-more (λ i. getD (closeUp xs) i 0) 0 3 (l .j),

@@ -1,7 +1,5 @@
 -- The digit of t.
-use mathlib.Core.Path.{ap, _∙_}
-use Prim.Native.Nat.{ℕ, _*_}
-use Rattle.nodes.specs.Numbers.{bitsOf}
+use mathlib.Core.Path.{_∙_}
 use Rattle.region.proofs.DigitLaws.{rank-at}
 use borrow.Author.Needs.{needs}
 use Rattle.region.proofs.ranks.rank_of.Statement.{statement}
@@ -19,8 +17,8 @@ bits-requires c κs = search needs
 returns : tie.Need-returns
 returns c =
     let args = c .before .before .args in
-    c .bits .ensures ∙ ap (λ (x : ℕ). bitsOf x 4 (4 * args .t)) (c .before .rank-digits .ensures)
-    ∙ rank-at (args .class) (args .t) (c .before .before .pre .1)
+    let digits = c .before .rank-digits in
+    c .bits .ensures ∙ rank-at (args .class) (digits .result) (digits .ensures) (args .t) (c .before .before .pre .1)
 
 pub rank-of-spec : {M : Type 1} → statement M
 rank-of-spec = tie.close (tie.spec rank-digits-requires mul-bits bits-requires returns)
