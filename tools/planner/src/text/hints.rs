@@ -54,9 +54,6 @@ const OTHER_WORDS: [(&str, &str); 14] = [
 /// What stands before the digits of a number and is no '-', and what to write for it.
 const BEFORE_DIGITS: [(&str, &str); 5] = [("−", "-"), ("–", "-"), ("—", "-"), ("- ", "-"), ("+", "")];
 
-/// Longer words are not compared.
-const LONGEST: usize = 64;
-
 /// The sign of another language that the text begins with.
 pub fn foreign(text: &str) -> Option<&'static str> {
     FOREIGN.iter().map(|(spelt, _)| *spelt).find(|spelt| text.starts_with(spelt))
@@ -100,8 +97,8 @@ pub fn word<'a>(spelt: &str, clocks: &'a [String]) -> Option<&'a str> {
 /// The name that is nearest, at most two slips away and by less than half of the word; the first of several.
 pub fn nearest<'a>(spelt: &str, names: impl Iterator<Item = &'a str>) -> Option<&'a str> {
     let close = |slips: usize| slips <= 2 && 2 * slips < spelt.len();
-    let near = names.filter(|name| spelt.len().max(name.len()) <= LONGEST).map(|name| (slips(spelt, name), name));
-    near.filter(|(slips, _)| close(*slips)).min_by_key(|(slips, _)| *slips).map(|(_, name)| name)
+    let near = names.map(|name| (slips(spelt, name), name)).filter(|(slips, _)| close(*slips));
+    near.min_by_key(|(slips, _)| *slips).map(|(_, name)| name)
 }
 
 /// How many letters are to be put in, left out, altered or swapped with the next, whatever their case.
