@@ -9,7 +9,7 @@ use borrow.Author.Tests.{ltb-true, ltb-false, lt-ltb, le-ltb, leb-true, leb-fals
 use lib.Dec.{leb, ltb, eqb}
 use Rattle.automaton.specs.Tests.{oneMoreIf}
 use Rattle.automaton.specs.Bounds.{interval, upperHolds, lowerHolds, upperHoldsNths, lowerHoldsNths, ifPresent}
-use Rattle.automaton.proofs.Tests.{by-bool, by-order, same-test}
+use Rattle.automaton.proofs.Tests.{by-bool, by-order, same-test, one-more-if, one-at-most}
 
 -- ---- the bytes in nths as one comparison
 
@@ -52,11 +52,7 @@ back n h f u z l c d t = by-order h (u / 2) (λ k. omega (arith, low)) (λ k. om
 
 -- the last bit
 bit : (h k : ℕ) → interval h k ≡ 2 * h + oneMoreIf (not (eqb k 0)) 0
-bit h k = go (eqb k 0)
-  where
-    go : (b : Bool) → oneMoreIf (not b) (2 * h) ≡ 2 * h + oneMoreIf (not b) 0
-    go true = omega arith
-    go false = omega arith
+bit h k = one-more-if (not (eqb k 0)) (2 * h)
 
 -- the class k is 0 where the fraction is
 module _ (n v k : ℕ) (p : 0 < n) (same : eqb k 0 ≡ eqb (v % n) 0) where
@@ -89,15 +85,11 @@ module _ (n v k : ℕ) (p : 0 < n) (same : eqb k 0 ≡ eqb (v % n) 0) where
 
 -- a value that may grow by an nth has its interval within the bound, and the next one too
 pub next-within : (n x k u : ℕ) → 0 < n → upperHoldsNths n u (suc x) ≡ true → upperHolds u (interval (x / n) k) ≡ true
-next-within n x k u p e = lt-ltb (interval (x / n) k) u (rw (bit (x / n) k) (by-order (x / n) (u / 2) (λ l. omega (arith, small (eqb k 0)))
+next-within n x k u p e = lt-ltb (interval (x / n) k) u (rw (bit (x / n) k) (by-order (x / n) (u / 2) (λ l. omega (arith, one-at-most (not (eqb k 0))))
     (λ l. absurd (omega (arith, h, div-add-mod' x n, ap (λ (a : ℕ). a * n) l))) (λ l. absurd (omega (arith, h, div-add-mod' x n, mul-le-mul-right n l)))))
   where
     h : suc x < u / 2 * n + u % 2
     h = ltb-true (suc x) (u / 2 * n + u % 2) (sym (upper-nths n u (suc x)) ∙ e)
-
-    small : (b : Bool) → oneMoreIf (not b) 0 ≤ 1
-    small true = omega arith
-    small false = omega arith
 
 -- a value that is kept may be smaller
 pub less-within : (n x y u : ℕ) → x ≤ y → upperHoldsNths n u y ≡ true → upperHoldsNths n u x ≡ true

@@ -1,12 +1,12 @@
--- Laws of tests: going by cases, tests that agree, conjunctions, and `only`.
+-- Laws of tests: going by cases, tests that agree, conjunctions, one more, and `only`.
 use mathlib.Core.Path.{_≡_, refl, sym, ap, _∙_}
 use mathlib.Core.Bool.{Bool, true, false, _&&_, true≢false, false≢true}
 use mathlib.Core.Option.{some}
-use Prim.Native.Nat.{ℕ, _<_}
+use Prim.Native.Nat.{ℕ, _+_, _≤_, _<_}
 use native.Mathlib.Omega.{arith}
 use borrow.Author.Tests.{ltb-true, ltb-false}
 use lib.Dec.{ltb}
-use Rattle.automaton.specs.Tests.{only}
+use Rattle.automaton.specs.Tests.{only, oneMoreIf}
 
 pub by-bool {ℓ} : {X : Type ℓ} (b : Bool) → (b ≡ true → X) → (b ≡ false → X) → X
 by-bool true f g = f refl
@@ -39,6 +39,16 @@ pub &&-right : (a b : Bool) → a && b ≡ true → b ≡ true
 
 pub &&-intro : {a b : Bool} → a ≡ true → b ≡ true → a && b ≡ true
 &&-intro {b = b} p q = ap (λ (x : Bool). x && b) p ∙ q
+
+-- ---- one more
+
+pub one-more-if : (b : Bool) (k : ℕ) → oneMoreIf b k ≡ k + oneMoreIf b 0
+one-more-if true k = omega arith
+one-more-if false k = omega arith
+
+pub one-at-most : (b : Bool) → oneMoreIf b 0 ≤ 1
+one-at-most true = omega arith
+one-at-most false = omega arith
 
 -- ---- `only`
 

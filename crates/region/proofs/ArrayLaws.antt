@@ -7,12 +7,9 @@ use native.Mathlib.Omega.{arith}
 use borrow.Author.Tests.{ne-eqb}
 use lib.Dec.{eqb}
 use lib.ListN.{length, getD, take, List·getD-map}
-use lib.Seq.{ext-getD}
 use Rattle.automaton.specs.Tests.{oneMoreIf, occurs}
 use Rattle.automaton.specs.Ranks.{rank, closeUp, mask, largest}
 use Rattle.automaton.specs.Steps.{carryWhole, carryClass}
-use Rattle.sheet.specs.Decoded.{filled}
-use Rattle.sheet.proofs.DecodeLaws.{filled-length, filled-at}
 use Rattle.nodes.specs.Numbers.{firstLayout, clocksFrom}
 use Rattle.region.specs.Arrays.{padded, risenClass}
 
@@ -88,13 +85,6 @@ largest-three xs h = sym (ap largest (sym (three xs h)) ∙ omega arith)
 
 pub largest-below : (b : ℕ) (xs : List ℕ) → length xs ≡ 3 → ((j : ℕ) → getD xs j 0 < b) → largest xs < b
 largest-below b xs l h = omega (arith, largest-three xs l, h 0, h 1, h 2)
-
--- an array that has been filled with the entries of a list is the list
-pub filled-whole : (xs : List ℕ) (n : ℕ) → length xs ≡ n → filled (λ j. getD xs j 0) 0 n n ≡ xs
-filled-whole xs n h =
-    let f : ℕ → ℕ = λ j. getD xs j 0 in
-    let l = filled-length f 0 n n in
-    ext-getD 0 (filled f 0 n n) xs (l ∙ sym h) (λ j k. filled-at f 0 n n j (omega arith) (omega (arith, l)))
 
 -- ---- what becomes of the clocks
 

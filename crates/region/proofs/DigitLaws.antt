@@ -12,6 +12,7 @@ use lib.ListN.{length, getD, take}
 use lib.Pow.{pow-add, shr-shr}
 use Rattle.automaton.specs.Tests.{oneMoreIf, occurs}
 use Rattle.automaton.specs.Ranks.{rank}
+use Rattle.automaton.proofs.Tests.{one-more-if, one-at-most}
 use Rattle.automaton.proofs.Ranks.{rank-zero, rank-grows}
 use Rattle.nodes.specs.Numbers.{bitsOf}
 use Rattle.region.specs.Arrays.{hexadecimal, valueDigits, rankDigits}
@@ -24,14 +25,14 @@ unfolding hexadecimal
 same-digits d e zero h = refl
 same-digits d e (suc n) h = ap₂ (λ (x y : ℕ). x + 16 * y) (h 0) (same-digits (λ v. d (suc v)) (λ v. e (suc v)) n (λ v. h (suc v)))
 
--- the digits above the lowest are below 16 too
-above : (d : ℕ → ℕ) (n : ℕ) → ((v : ℕ) → v < suc n → d v < 16) → (v : ℕ) → v < n → d (suc v) < 16
-above d n h v l = h (suc v) (omega arith)
+-- of digits below 16, those above the lowest
+rest-below : (d : ℕ → ℕ) (n : ℕ) → ((v : ℕ) → v < suc n → d v < 16) → (v : ℕ) → v < n → d (suc v) < 16
+rest-below d n h v l = h (suc v) (omega arith)
 
 digits-below : (d : ℕ → ℕ) (n : ℕ) → ((v : ℕ) → v < n → d v < 16) → hexadecimal d n < 16 ^ n
 unfolding hexadecimal
 digits-below d zero h = omega arith
-digits-below d (suc n) h = omega (arith, h 0 (omega arith), digits-below (λ v. d (suc v)) n (above d n h), pow-succ' 16 n)
+digits-below d (suc n) h = omega (arith, h 0 (omega arith), digits-below (λ v. d (suc v)) n (rest-below d n h), pow-succ' 16 n)
 
 digit-at : (d : ℕ → ℕ) (n : ℕ) → ((v : ℕ) → v < n → d v < 16) → (t : ℕ) → t < n → bitsOf (hexadecimal d n) 4 (4 * t) ≡ d t
 unfolding hexadecimal
@@ -42,13 +43,12 @@ digit-at d (suc n) h (suc t) l =
     let e : 4 * suc t ≡ 4 + 4 * t = omega arith in
     let q : (d 0 + 16 * x) / 16 ≡ x = omega (arith, h 0 (omega arith)) in
     ap (λ (k : ℕ). bitsOf (d 0 + 16 * x) 4 k) e ∙ ap (λ (y : ℕ). y % 16) (sym (shr-shr (d 0 + 16 * x) 4 (4 * t)))
-    ∙ ap (λ (y : ℕ). y / 2 ^ (4 * t) % 16) q ∙ digit-at (λ v. d (suc v)) n (above d n h) t (omega arith)
+    ∙ ap (λ (y : ℕ). y / 2 ^ (4 * t) % 16) q ∙ digit-at (λ v. d (suc v)) n (rest-below d n h) t (omega arith)
 
 -- ---- the values that occur
 
 one-low : (b : Bool) → oneMoreIf b 0 < 16
-one-low true = omega arith
-one-low false = omega arith
+one-low b = omega (arith, one-at-most b)
 
 or-one : (b : Bool) → bitOr (oneMoreIf b 0) 1 ≡ 1
 or-one true = refl
@@ -82,9 +82,9 @@ with-value p (suc v) (suc n) h =
     (or-zero-r d ∙ ap (λ (b : Bool). oneMoreIf (b || p 0) 0) (sym (eqb·zero-suc v)))
     ∙ omega arith
 
-pub no-values : (xs : List ℕ) → 0 ≡ valueDigits (take 0 xs)
+pub values-none : (xs : List ℕ) → 0 ≡ valueDigits (take 0 xs)
 unfolding valueDigits hexadecimal
-no-values xs = refl
+values-none xs = refl
 
 pub values-more : (xs : List ℕ) (j : ℕ) → j < length xs → getD xs j 0 < 8
     → bitOr (valueDigits (take j xs)) (2 ^ (4 * getD xs j 0)) ≡ valueDigits (take (j + 1) xs)
@@ -96,32 +96,30 @@ values-more xs j h k =
 
 -- ---- their ranks
 
--- without the lowest digit
-above-0 : (x : ℕ) → x < 0x1_0000_0000 → x / 16 % 0x1000_0000 * 16 + x % 16 ≡ x
-above-0 x h = let q : x / 16 % 0x1000_0000 ≡ x / 16 = mod-eq-of-lt (omega arith) in omega (arith, q)
+-- eight digits are those above the lowest, and the lowest
+lowest-apart : (x : ℕ) → x < 0x1_0000_0000 → x / 16 % 0x1000_0000 * 16 + x % 16 ≡ x
+lowest-apart x h = let q : x / 16 % 0x1000_0000 ≡ x / 16 = mod-eq-of-lt (omega arith) in omega (arith, q)
 
--- a factor is eight ones where fifteen times it is one less than 16^8
-eight-ones : (above ones ranks last : ℕ) → 15 * ones ≡ 0xffff_ffff → above + 16 * ranks ≡ ranks + 0x1_0000_0000 * last → ranks < 0x1_0000_0000
-    → above * ones % 0x1_0000_0000 ≡ ranks
-eight-ones above ones ranks last f e h =
-    let eight : ones ≡ 0x1111_1111 = omega arith in
-    let room : ranks ≤ 0x1111_1111 * last = omega arith in
-    let carried = 0x1111_1111 * last - ranks in
-    let q : above * 0x1111_1111 ≡ ranks + 0x1_0000_0000 * carried = omega (arith, room) in
-    ap (λ (x : ℕ). above * x % 0x1_0000_0000) eight ∙ ap (λ (x : ℕ). x % 0x1_0000_0000) q
-    ∙ add-mul-mod-self-left ranks 0x1_0000_0000 carried ∙ mod-eq-of-lt h
+-- A factor with ones in its lowest seven digits. What it has above them goes beyond the eight digits of the product: its other factor has no lowest digit.
+seven-ones : (values ones ranks last : ℕ) → ones % 0x1000_0000 ≡ 0x111_1111 → values * 16 + 16 * ranks ≡ ranks + 0x1_0000_0000 * last
+    → ranks < 0x1_0000_0000 → values * 16 * ones % 0x1_0000_0000 ≡ ranks
+seven-ones values ones ranks last f e h =
+    let r = values + ranks - 0x1000_0000 * last in
+    let k = ones / 0x1000_0000 in
+    let no-lowest : ranks ≡ 16 * r = omega arith in
+    let factor : ones ≡ 0x111_1111 + 0x1000_0000 * k = omega arith in
+    let room : r ≤ 0x111_1111 * last = omega (arith, no-lowest) in
+    let carried = 0x111_1111 * last - r + values * k in
+    let q : values * 16 * ones ≡ ranks + 0x1_0000_0000 * carried = omega (arith, room, no-lowest, ap (λ (x : ℕ). values * 16 * x) factor) in
+    ap (λ (x : ℕ). x % 0x1_0000_0000) q ∙ add-mul-mod-self-left ranks 0x1_0000_0000 carried ∙ mod-eq-of-lt h
 
 module _ (xs : List ℕ) where
   one : ℕ → ℕ
   one v = oneMoreIf (occurs v xs) 0
 
-  one-more : (t : ℕ) → rank xs (suc t) ≡ rank xs t + one (suc t)
+  rank-next : (t : ℕ) → rank xs (suc t) ≡ rank xs t + one (suc t)
   unfolding rank one
-  one-more t = more (occurs (suc t) xs)
-    where
-      more : (b : Bool) → oneMoreIf b (rank xs t) ≡ rank xs t + oneMoreIf b 0
-      more true = omega arith
-      more false = omega arith
+  rank-next t = one-more-if (occurs (suc t) xs) (rank xs t)
 
   one-below : (v : ℕ) → v < 8 → one v < 16
   unfolding one
@@ -131,10 +129,10 @@ module _ (xs : List ℕ) where
   rank-below : (t : ℕ) → t < 8 → rank xs t < 16
   rank-below t h = omega (arith, rank-grows xs 0 t (omega arith), rank-zero xs)
 
-  -- the ranks a place higher, and 1 where a value occurs, are the ranks again: the value 0 is not counted, and the last rank leaves the eight digits
+  -- The rank of t + 1 is that of t, and one more where t + 1 occurs: for all digits at once. The value 0 is not counted, and the last rank has no digit.
   moved-up : valueDigits xs + 16 * rankDigits xs ≡ one 0 + rankDigits xs + 0x1_0000_0000 * rank xs 7
   unfolding valueDigits rankDigits hexadecimal rank one
-  moved-up = omega (arith, one-more 0, one-more 1, one-more 2, one-more 3, one-more 4, one-more 5, one-more 6)
+  moved-up = omega (arith, rank-next 0, rank-next 1, rank-next 2, rank-next 3, rank-next 4, rank-next 5, rank-next 6)
 
   values-low : valueDigits xs < 0x1_0000_0000
   unfolding valueDigits one
@@ -148,13 +146,13 @@ module _ (xs : List ℕ) where
   unfolding rankDigits
   ranks-low = digits-below (rank xs) 8 rank-below
 
-  -- of the digits without that of 0, the product by eight ones, in eight digits
-  pub product : (x ones : ℕ) → x ≡ valueDigits xs → 15 * ones ≡ 0xffff_ffff → bitAnd x 0xffff_fff0 * ones % 0x1_0000_0000 ≡ rankDigits xs
+  -- eight digits of the product, the digit of 0 left out
+  pub product : (x ones : ℕ) → x ≡ valueDigits xs → ones % 0x1000_0000 ≡ 0x111_1111 → bitAnd x 0xffff_fff0 * ones % 0x1_0000_0000 ≡ rankDigits xs
   product x ones e f =
-      ap (λ (y : ℕ). y * ones % 0x1_0000_0000) (and-high x 28 4) ∙ eight-ones (x / 16 % 0x1000_0000 * 16) ones (rankDigits xs) (rank xs 7) f rest ranks-low
+      ap (λ (y : ℕ). y * ones % 0x1_0000_0000) (and-high x 28 4) ∙ seven-ones (x / 16 % 0x1000_0000) ones (rankDigits xs) (rank xs 7) f rest ranks-low
     where
       rest : x / 16 % 0x1000_0000 * 16 + 16 * rankDigits xs ≡ rankDigits xs + 0x1_0000_0000 * rank xs 7
-      rest = omega (arith, e, moved-up, above-0 x (omega (arith, e, values-low)), value-0, ap (λ (y : ℕ). y % 16) e)
+      rest = omega (arith, e, moved-up, lowest-apart x (omega (arith, e, values-low)), value-0, ap (λ (y : ℕ). y % 16) e)
 
   pub rank-at : (x : ℕ) → x ≡ rankDigits xs → (t : ℕ) → t < 8 → bitsOf x 4 (4 * t) ≡ rank xs t
   unfolding rankDigits

@@ -1,9 +1,10 @@
 // Classes of a region: which occur, the largest, ranks, and closing up.
 ghost use mathlib.Core.Path.{_≡_};
-ghost use Prim.Native.Nat.{ℕ, _≤_, _<_, max};
+ghost use Prim.Native.Nat.{ℕ, _*_, _≤_, _<_, max};
 ghost use lib.ListN.{take, getD};
 ghost use Rattle.automaton.specs.Tests.{occurs};
 ghost use Rattle.automaton.specs.Ranks.{rank, closeUp, largest};
+ghost use Rattle.nodes.specs.Numbers.{bitsOf};
 ghost use Rattle.region.specs.Arrays.{valueDigits, rankDigits};
 
 // Whether a value occurs among the first clocks.
@@ -40,12 +41,19 @@ fn rank_digits(class: [u8; 3]) -> u32
     (above_0 * 0x1111_1111 % 0x1_0000_0000) as u32
 }
 
+fn digit(digits: u32, t: u8) -> u8
+    requires { ⌜ t < 8 ⌝ }
+    ensures { λ r. ⌜ r ≡ bitsOf digits 4 (4 * t) ⌝ }
+{
+    crate::numbers::bits(digits, 4, 4 * (t as u32))
+}
+
 // How many of the values 1 to t occur.
 pub(crate) fn rank_of(class: [u8; 3], t: u8) -> u8
     requires { ⌜ ((j : ℕ) → getD class j 0 < 8) × (t < 8) ⌝ }
     ensures { λ r. ⌜ r ≡ rank class t ⌝ }
 {
-    crate::numbers::bits(rank_digits(class), 4, 4 * (t as u32))
+    digit(rank_digits(class), t)
 }
 
 // Emptied ranks close up.
@@ -56,7 +64,7 @@ pub(crate) fn close_up(class: [u8; 3]) -> [u8; 3]
     let digits = rank_digits(class);
     let mut closed = [0u8; 3];
     for j in 0..3usize {
-        closed[j] = crate::numbers::bits(digits, 4, 4 * (class[j] as u32));
+        closed[j] = digit(digits, class[j]);
     }
     closed
 }

@@ -1,11 +1,12 @@
--- Filling a list of records from the front.
+-- Filling a list from the front.
 use mathlib.Core.Path.{_≡_, sym, ap, _∙_}
+use mathlib.Core.List.{List}
 use Prim.Native.Nat.{ℕ, zero, suc, _+_, _≤_, _<_}
 use native.Mathlib.Decide.{ℕ-discrete}
 use native.Mathlib.Numerals.{add-one}
 use native.Mathlib.Omega.{arith}
 use lib.ListN.{length, getD, set, length-set, length-replicate}
-use lib.Seq.{getD-set-same, getD-set-other}
+use lib.Seq.{ext-getD, getD-set-same, getD-set-other}
 use Rattle.sheet.specs.Decoded.{filled}
 
 module _ {A : Type 0} (f : ℕ → A) (d : A) (n : ℕ) where
@@ -27,3 +28,9 @@ module _ {A : Type 0} (f : ℕ → A) (d : A) (n : ℕ) where
         ∙ getD-set-same (filled f d n i) i (f i) d (omega (arith, filled-length i)) ∙ ap f (sym e)
     | no e ↦ getD-set-other (filled f d n i) i k (f i) d e ∙ filled-at i k (omega arith) (omega arith)
   ]
+
+-- filled with the entries of a list, it is the list
+pub filled-whole : {A : Type 0} (d : A) (n : ℕ) (xs : List A) → length xs ≡ n → filled (λ j. getD xs j d) d n n ≡ xs
+filled-whole d n xs h =
+    let l = filled-length (λ j. getD xs j d) d n n in
+    ext-getD d (filled (λ j. getD xs j d) d n n) xs (l ∙ sym h) (λ j k. filled-at (λ j. getD xs j d) d n n j (omega arith) (omega (arith, l)))

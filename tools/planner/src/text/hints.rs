@@ -94,7 +94,8 @@ pub fn word<'a>(spelt: &str, clocks: &'a [String]) -> Option<&'a str> {
     other.or_else(|| nearest(spelt, WORDS.into_iter().chain(clocks.iter().map(String::as_str))))
 }
 
-/// The name that is nearest, at most two slips away and by less than half of the word; the first of several.
+/// The name that is nearest, at most two slips away and by less than half of the word; the first of several. Words and names have at most
+/// 64 letters (`tokens.rs`), so that comparing them takes little.
 pub fn nearest<'a>(spelt: &str, names: impl Iterator<Item = &'a str>) -> Option<&'a str> {
     let close = |slips: usize| slips <= 2 && 2 * slips < spelt.len();
     let near = names.map(|name| (slips(spelt, name), name)).filter(|(slips, _)| close(*slips));

@@ -7,8 +7,7 @@ use lib.ListN.{length, getD, set, List·getD-map}
 use Rattle.automaton.specs.Ranks.{rank, closeUp}
 use Rattle.automaton.proofs.Ranks.{length-close}
 use Rattle.sheet.specs.Decoded.{filled}
-use Rattle.sheet.proofs.DecodeLaws.{filled-more}
-use Rattle.region.proofs.ArrayLaws.{filled-whole}
+use Rattle.sheet.proofs.DecodeLaws.{filled-more, filled-whole}
 use Rattle.region.proofs.DigitLaws.{rank-at}
 use borrow.Author.Needs.{needs}
 use Rattle.region.proofs.ranks.close_up.Statement.{statement}
@@ -27,17 +26,11 @@ loop-holds : tie.Need-loop-holds Inv-loop μ-loop
 unfolding filled
 loop-holds c = (search needs, refl)
 
-array-read-bits : tie.Need-array-read-bits Inv-loop μ-loop
-array-read-bits c = search needs
+array-read-digit : tie.Need-array-read-digit Inv-loop μ-loop
+array-read-digit c = search needs
 
-cast-bits : tie.Need-cast-bits Inv-loop μ-loop
-cast-bits c = search needs
-
-mul-bits : tie.Need-mul-bits Inv-loop μ-loop
-mul-bits c = omega (arith, c .before .before .before .pre (c .before .loop .j))
-
-bits-requires : tie.Need-bits-requires Inv-loop μ-loop
-bits-requires c κs = omega (arith, c .before .before .before .pre (c .before .loop .j))
+digit-requires : tie.Need-digit-requires Inv-loop μ-loop
+digit-requires c κs = c .before .before .before .pre (c .before .loop .j)
 
 array-write-closed : tie.Need-array-write-closed Inv-loop μ-loop
 array-write-closed c = search needs
@@ -53,9 +46,8 @@ unfolding closeUp rank
 loop-again c =
     let l = c .before .before .loop in
     let xs = c .before .before .before .before .args .t1 in
-    let h : length xs ≡ 3 = search needs in
     let digits = c .before .before .before .rank-digits in
-    let entry = c .bits .ensures ∙ rank-at xs (digits .result) (digits .ensures) (getD xs (l .j) 0) (c .before .before .before .before .pre (l .j)) in (
+    let entry = c .digit .ensures ∙ rank-at xs (digits .result) (digits .ensures) (getD xs (l .j) 0) (c .before .before .before .before .pre (l .j)) in (
       search needs,
       ap₂ (λ (zs : List ℕ) (v : ℕ). set zs (l .j) v) (l .inv .1) (entry ∙ sym (List·getD-map (rank xs) xs (l .j) 0))
           ∙ filled-more (λ i. getD (closeUp xs) i 0) 0 3 (l .j),
@@ -67,7 +59,7 @@ returns c =
     let xs = c .before .before .before .args .t1 in
     let h : length xs ≡ 3 = search needs in
     let e : l .j ≡ 3 = omega arith in
-    l .inv .1 ∙ ap (filled (λ i. getD (closeUp xs) i 0) 0 3) e ∙ filled-whole (closeUp xs) 3 (length-close xs ∙ h)
+    l .inv .1 ∙ ap (filled (λ i. getD (closeUp xs) i 0) 0 3) e ∙ filled-whole 0 3 (closeUp xs) (length-close xs ∙ h)
 
 pub close-up-spec : {M : Type 1} → statement M
 close-up-spec =
@@ -77,10 +69,8 @@ close-up-spec =
     μ-loop
     rank-digits-requires
     loop-holds
-    array-read-bits
-    cast-bits
-    mul-bits
-    bits-requires
+    array-read-digit
+    digit-requires
     array-write-closed
     add-j
     loop-less

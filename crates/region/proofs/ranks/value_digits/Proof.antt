@@ -7,7 +7,7 @@ use lib.ListN.{length, getD, take}
 use lib.Seq.{take-all}
 use Rattle.sheet.proofs.MapLaws.{one-shl}
 use Rattle.region.specs.Arrays.{valueDigits}
-use Rattle.region.proofs.DigitLaws.{no-values, values-more}
+use Rattle.region.proofs.DigitLaws.{values-none, values-more}
 use borrow.Author.Needs.{needs}
 use Rattle.region.proofs.ranks.value_digits.Statement.{statement}
 use Rattle.region.proofs.ranks.value_digits.Tie as tie
@@ -19,7 +19,7 @@ abbrev μ-loop : tie.MeasureT-loop
 μ-loop class digits₀ j₀ digits j = 3 - j
 
 loop-holds : tie.Need-loop-holds Inv-loop μ-loop
-loop-holds c = (search needs, no-values (c .args .t1))
+loop-holds c = (search needs, values-none (c .args .t1))
 
 array-read-digits : tie.Need-array-read-digits Inv-loop μ-loop
 array-read-digits c = search needs
@@ -43,7 +43,6 @@ loop-again : tie.Need-loop-again Inv-loop μ-loop
 loop-again c =
     let xs = c .before .before .args .t1 in
     let j = c .before .loop .j in
-    let h : length xs ≡ 3 = search needs in
     let small = c .before .before .pre j in (
       search needs,
       ap₂ bitOr (c .before .loop .inv .1) (one-shl 32 (4 * getD xs j 0) (omega (arith, small))) ∙ values-more xs j (search needs) small,
