@@ -36,7 +36,7 @@ static const uint8_t in_turn[26] = {1, 2, 1, 2, 5, 1, 0, 5, 5, 2, 0, 7, 12, 0, 0
 static uint32_t nodes[LONGER];
 static int64_t potentials[LONGER];
 static uint16_t steps[LONGER];
-static int64_t p, q, n, s, m;
+static int64_t p, q, n, s, m, units, cost, reward;
 static uint16_t waits[LONGER], edges[LONGER];
 static int64_t stem, cycle;
 
@@ -47,8 +47,8 @@ static uint8_t plan(const uint8_t *sheet, size_t length, size_t entries) {
         potentials[i] = MARK;
         steps[i] = MARK;
     }
-    p = q = n = s = m = MARK;
-    return planner_plan(sheet, length, nodes, entries, potentials, LONGER, steps, LONGER, &p, &q, &n, &s, &m);
+    p = q = n = s = m = units = cost = reward = MARK;
+    return planner_plan(sheet, length, nodes, entries, potentials, LONGER, steps, LONGER, &p, &q, &n, &s, &m, &units, &cost, &reward);
 }
 
 /* Whether all three buffers hold the entry, but for so many at their front. */
@@ -60,55 +60,67 @@ static int hold(uint32_t entry, size_t node_count, size_t step_count) {
     return 1;
 }
 
-static int all_zero(void) { return p == 0 && q == 0 && n == 0 && s == 0 && m == 0; }
+static int all_zero(void) {
+    return p == 0 && q == 0 && n == 0 && s == 0 && m == 0 && units == 0 && cost == 0 && reward == 0;
+}
 
 static void accepted(void) {
     EXPECT(plan(idle_costs, sizeof idle_costs, LONGER) == 0 && p == 3 && q == 1 && n == 7);
     EXPECT(plan(two_edges, sizeof two_edges, LONGER) == 0 && p == 2 && q == 1 && n == 7);
     EXPECT(plan(bench, sizeof bench, LONGER) == 0);
     EXPECT(p == 3 && q == 1 && n == 7 && s >= 0 && m >= 1 && s + m <= n);
+    EXPECT(units == 1 && cost == 6 && reward == 2);
     EXPECT(hold(0, (size_t)n, (size_t)(s + m)));
     for (int64_t i = 1; i < n; i++) EXPECT(nodes[i - 1] < nodes[i]);
 }
 
+/* The numbers of a step. */
+static uint32_t number;
+static int64_t step_cost, step_reward, step_units;
+
+/* Steps with a mark in every number. */
+static uint8_t step(const uint8_t *sheet, size_t length, uint32_t node, uint16_t code) {
+    number = MARK;
+    step_cost = step_reward = step_units = MARK;
+    return planner_step(sheet, length, node, code, &number, &step_cost, &step_reward, &step_units);
+}
+
+/* Whether the step gave this node's number, and 0 for the other three. */
+static int only(uint32_t node) { return number == node && step_cost == 0 && step_reward == 0 && step_units == 0; }
+
 /* The lasso of the plan before, walked by single steps. */
 static void walked(void) {
     uint32_t node = 0, knot = 0;
-    int64_t costs = 0, rewards = 0;
+    int64_t taken = 0, costs = 0, rewards = 0;
     for (int64_t i = 0; i < s + m; i++) {
-        int64_t cost = MARK, reward = MARK;
         if (i == s) knot = node;
-        EXPECT(planner_step(bench, sizeof bench, node, steps[i], &node, &cost, &reward) == 0);
+        EXPECT(step(bench, sizeof bench, node, steps[i]) == 0);
+        EXPECT(step_units == (steps[i] == PLANNER_UNIT));
+        node = number;
         if (i >= s) {
-            costs += cost;
-            rewards += reward;
+            taken += step_units;
+            costs += step_cost;
+            rewards += step_reward;
         }
     }
     EXPECT(node == knot && q * costs == p * rewards && rewards > 0);
+    EXPECT(units == taken && cost == costs && reward == rewards);
 }
 
 static void refused(void) {
-    uint32_t number = MARK;
-    int64_t cost = MARK, reward = MARK;
     EXPECT(plan(bench, sizeof bench, PLANNER_LEAST_ENTRIES - 1) == 1 && all_zero() && hold(MARK, 0, 0));
     EXPECT(plan(bench, sizeof bench - 1, LONGER) == 5 && all_zero() && hold(MARK, 0, 0));
     EXPECT(plan(no_edge, sizeof no_edge, LONGER) == 13 && all_zero() && hold(0, 0, 0));
     EXPECT(plan(idle_gains, sizeof idle_gains, LONGER) == 14 && all_zero() && hold(0, 0, 0));
     EXPECT(planner_check(bench, sizeof bench) == 0 && planner_check(bench, 0) == 2);
-    EXPECT(planner_step(bench, sizeof bench, 0, PLANNER_MOVE, &number, &cost, &reward) == 0);
-    EXPECT(number == 5 && cost == 0 && reward == 0);
-    cost = reward = MARK;
-    EXPECT(planner_step(bench, sizeof bench, 0, PLANNER_UNIT, &number, &cost, &reward) == 16);
-    EXPECT(number == 0 && cost == 0 && reward == 0);
+    EXPECT(step(bench, sizeof bench, 0, PLANNER_MOVE) == 0 && only(5));
+    EXPECT(step(bench, sizeof bench, 0, PLANNER_UNIT) == 16 && only(0));
 }
 
 /* No buffer is written to, and every number is. */
 static void refused_twice(void) {
-    uint32_t number = MARK;
-    int64_t cost = MARK, reward = MARK;
     EXPECT(planner_check(edge_twice, sizeof edge_twice) == 17);
-    EXPECT(planner_step(edge_twice, sizeof edge_twice, 0, PLANNER_MOVE, &number, &cost, &reward) == 17);
-    EXPECT(number == 0 && cost == 0 && reward == 0);
+    EXPECT(step(edge_twice, sizeof edge_twice, 0, PLANNER_MOVE) == 17 && only(0));
     EXPECT(plan(edge_twice, sizeof edge_twice, LONGER) == 17 && all_zero() && hold(MARK, 0, 0));
     EXPECT(plan(edge_twice, sizeof edge_twice, PLANNER_LEAST_ENTRIES - 1) == 1 && all_zero() && hold(MARK, 0, 0));
 }

@@ -95,9 +95,10 @@ uint8_t planner_check(const uint8_t *sheet, size_t sheet_length);
  * code                 0 to 31 for an edge, PLANNER_UNIT or PLANNER_MOVE
  * number               gets the number of the node that the step leads to
  * cost, reward         get what the step costs and earns
+ * units                gets the units of time that it takes: 1 for PLANNER_UNIT, 0 for any other
  */
 uint8_t planner_step(const uint8_t *sheet, size_t sheet_length, uint32_t node, uint16_t code,
-                     uint32_t *number, int64_t *cost, int64_t *reward);
+                     uint32_t *number, int64_t *cost, int64_t *reward, int64_t *units);
 
 /*
  * Plans a sheet: questions 1 to 14 and 17.
@@ -109,6 +110,8 @@ uint8_t planner_step(const uint8_t *sheet, size_t sheet_length, uint32_t node, u
  * p, q                             get the ratio p / q, in lowest terms with q >= 1
  * n                                gets the count of reachable nodes
  * s, m                             get the lengths of stem and cycle; m >= 1 and s + m <= n
+ * units, cost, reward              get what that cycle takes, costs and earns: the sums of what
+ *                                  planner_step gives along it, so that cost * q == reward * p
  *
  * The least ratio of cost over reward of a cycle that earns is p / q; the lasso goes from the start,
  * and its cycle earns and has that ratio. The potential of a node is the least weight of a walk to
@@ -122,7 +125,7 @@ uint8_t planner_step(const uint8_t *sheet, size_t sheet_length, uint32_t node, u
 uint8_t planner_plan(const uint8_t *sheet, size_t sheet_length, uint32_t *nodes,
                      size_t nodes_length, int64_t *potentials, size_t potentials_length,
                      uint16_t *steps, size_t steps_length, int64_t *p, int64_t *q, int64_t *n,
-                     int64_t *s, int64_t *m);
+                     int64_t *s, int64_t *m, int64_t *units, int64_t *cost, int64_t *reward);
 
 /*
  * Plans a sheet in whole units: questions 1 to 14, 17 and 18.

@@ -20,9 +20,9 @@ struct Pairs {
 };
 
 int call_plan(const std::vector<uint8_t> &bytes, Buffers &b) {
-    int64_t p, q, n, s, m;
+    int64_t p, q, n, s, m, units, cost, reward;
     return planner_plan(bytes.data(), bytes.size(), b.nodes.data(), b.nodes.size(), b.potentials.data(), b.potentials.size(), b.steps.data(),
-                        b.steps.size(), &p, &q, &n, &s, &m);
+                        b.steps.size(), &p, &q, &n, &s, &m, &units, &cost, &reward);
 }
 
 void call_work(const std::vector<uint8_t> &bytes, Pairs &a) {

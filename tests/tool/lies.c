@@ -5,10 +5,11 @@
 
 uint8_t true_planner_check(const uint8_t *sheet, size_t sheet_length);
 uint8_t true_planner_step(const uint8_t *sheet, size_t sheet_length, uint32_t node, uint16_t code, uint32_t *number,
-                          int64_t *cost, int64_t *reward);
+                          int64_t *cost, int64_t *reward, int64_t *units);
 uint8_t true_planner_plan(const uint8_t *sheet, size_t sheet_length, uint32_t *nodes, size_t nodes_length,
                           int64_t *potentials, size_t potentials_length, uint16_t *steps, size_t steps_length,
-                          int64_t *p, int64_t *q, int64_t *n, int64_t *s, int64_t *m);
+                          int64_t *p, int64_t *q, int64_t *n, int64_t *s, int64_t *m, int64_t *units, int64_t *cost,
+                          int64_t *reward);
 uint8_t true_planner_work(const uint8_t *sheet, size_t sheet_length, uint16_t *waits, size_t waits_length,
                           uint16_t *edges, size_t edges_length, int64_t *stem, int64_t *cycle);
 
@@ -22,18 +23,20 @@ uint8_t planner_check(const uint8_t *sheet, size_t sheet_length) {
 }
 
 uint8_t planner_step(const uint8_t *sheet, size_t sheet_length, uint32_t node, uint16_t code, uint32_t *number,
-                     int64_t *cost, int64_t *reward) {
-    uint8_t refusal = true_planner_step(sheet, sheet_length, node, code, number, cost, reward);
+                     int64_t *cost, int64_t *reward, int64_t *units) {
+    uint8_t refusal = true_planner_step(sheet, sheet_length, node, code, number, cost, reward, units);
     if (refusal == 0 && lies("price"))
         *cost += 1;
+    if (refusal == 0 && code == PLANNER_MOVE && lies("move"))
+        *units = 1;
     return refusal;
 }
 
 uint8_t planner_plan(const uint8_t *sheet, size_t sheet_length, uint32_t *nodes, size_t nodes_length,
                      int64_t *potentials, size_t potentials_length, uint16_t *steps, size_t steps_length, int64_t *p,
-                     int64_t *q, int64_t *n, int64_t *s, int64_t *m) {
+                     int64_t *q, int64_t *n, int64_t *s, int64_t *m, int64_t *units, int64_t *cost, int64_t *reward) {
     uint8_t refusal = true_planner_plan(sheet, sheet_length, nodes, nodes_length, potentials, potentials_length, steps,
-                                        steps_length, p, q, n, s, m);
+                                        steps_length, p, q, n, s, m, units, cost, reward);
     if (lies("check"))
         return 5;
     if (lies("number"))
@@ -46,6 +49,12 @@ uint8_t planner_plan(const uint8_t *sheet, size_t sheet_length, uint32_t *nodes,
         steps[0] = 0;
     if (lies("nodes"))
         *n = 1;
+    if (lies("units"))
+        *units += 1;
+    if (lies("reduced"))
+        *cost = *p;
+    if (lies("earned"))
+        *reward = *q;
     return refusal;
 }
 
@@ -56,5 +65,10 @@ uint8_t planner_work(const uint8_t *sheet, size_t sheet_length, uint16_t *waits,
         return 18;
     if (refusal == 0 && lies("wait"))
         waits[*stem] += 1;
+    if (refusal == 0 && lies("twice")) {
+        memcpy(waits + *stem + *cycle, waits + *stem, (size_t)*cycle * sizeof *waits);
+        memcpy(edges + *stem + *cycle, edges + *stem, (size_t)*cycle * sizeof *edges);
+        *cycle *= 2;
+    }
     return refusal;
 }

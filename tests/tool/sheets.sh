@@ -63,6 +63,29 @@ sed 's/when x >= 1/when x > 1/; s/^  cost 1$//' sheets/bench.txt >"$work/free.tx
 ends "attained in halves" 0 planner plan "$work/free.txt"
 holds "attained in halves" "$(cat "$work/out")" "attained by the cycle below, which waits in multiples of 1/2 and keeps the strict bounds and guards (checked by replay)"
 
+# what a cycle takes, costs and earns, and what that rests on: the answer where the plan's cycle is shown, else both
+# shown_cycle WHAT LINES WORDS..: these lines of the plan, its cycle's head and last line among them
+shown_cycle() {
+  ends "$1: its cycle" 0 planner plan "${@:3}"
+  expect "$1: its cycle" "$(sed -n '/^cycle, \|^the plan.s cycle /p; $p' "$work/out")" "$2"
+}
+proved=$'cycle, repeating every 1:\n  takes 1, costs 6, earns 2 (proved, and checked by replay)'
+shown_cycle "a work plan" "$proved" sheets/bench.txt
+shown_cycle "a work plan, in thirds" "$proved" sheets/bench.txt --nths 3
+shown_cycle "a run by its corner points" "$proved" sheets/bench-strict-bound.txt
+shown_cycle "a run by its corner points, in thirds" "$proved" sheets/bench-strict-bound.txt --nths 3
+shown_cycle "corner points" "cycle, repeating every 3:
+  takes 3, costs 8, earns 4 (proved, and checked by replay, with each bound and guard taken as one that may be reached)" sheets/beacon.txt
+shown_cycle "in tenths" "the plan's cycle of corner points takes 3, costs 8, earns 4 (proved)
+cycle, repeating every 16/5:
+  takes 16/5, costs 87/10, earns 4 (checked by replay)" sheets/beacon.txt --nths 10
+shown_cycle "attained in halves" "the plan's cycle of corner points takes 1, costs 5, earns 2 (proved)
+cycle, repeating every 3/2:
+  takes 3/2, costs 5, earns 2 (checked by replay)" "$work/free.txt"
+holds "a work plan: its cycle, JSON" "$(planner plan sheets/bench.txt --json --nths 3)" '"nodes":7,"cycle":{"units":1,"cost":6,"reward":2},"schedule":{'
+holds "corner points: their cycle, JSON" "$(planner plan sheets/beacon.txt --json)" '"cycle":{"units":3,"cost":8,"reward":4},"schedule":{"is":"corners",'
+holds "in tenths: the plan's cycle, JSON" "$(planner plan sheets/beacon.txt --json --nths 10)" '"cycle":{"units":3,"cost":8,"reward":4},"schedule":{"is":"near",'
+
 # the loop of 14 where its corner points are no run
 cat >"$work/gain.txt" <<'END'
 clocks x
@@ -82,7 +105,7 @@ holds "a loop that is no run" "$(cat "$work/out")" "its corner points are no run
 holds "a loop that is no run, JSON" "$(planner plan "$work/gain.txt" --json || true)" '"loop":{"is":"corners",'
 holds "a loop that is a run, JSON" "$(planner plan sheets/feed-in.txt --json || true)" '"loop":{"is":"run",'
 holds "a loop that is no run: its basis" "$(planner plan "$work/gain.txt" || true)" "costs -1, earns 0 (checked by replay, with each bound and guard taken as one that may be reached)"
-holds "corner points: their basis" "$(planner plan sheets/beacon.txt)" "costs 8, earns 4 (checked by replay, with each bound and guard taken as one that may be reached)"
+holds "corner points: their basis" "$(planner plan sheets/beacon.txt)" "costs 2, earns 0 (checked by replay, with each bound and guard taken as one that may be reached)"
 holds "too coarse, JSON" "$(planner plan sheets/beacon.txt --nths 1 --json || true)" '"answer":"no run","nths":1,"least_nths":2}'
 holds "a run by its corner points, in thirds" "$(planner plan sheets/bench-strict-bound.txt --nths 3 --json)" '"nths":3,'
 holds "a work plan, in thirds" "$(planner plan sheets/bench.txt --nths 3 --json)" '"nths":3,'

@@ -13,6 +13,8 @@ pub struct StepNumbers {
     pub cost: i64,
     /// What the step earns.
     pub reward: i64,
+    /// The units of time that it takes: 1 for code 32, 0 for any other.
+    pub units: i64,
 }
 
 /// The numbers of a plan.
@@ -28,6 +30,12 @@ pub struct PlanNumbers {
     pub s: i64,
     /// How many steps the cycle has, at least 1.
     pub m: i64,
+    /// The units of time that the cycle takes.
+    pub units: i64,
+    /// What the cycle costs.
+    pub cost: i64,
+    /// What the cycle earns, at least 1.
+    pub reward: i64,
 }
 
 /// The numbers of a work plan.
@@ -49,7 +57,7 @@ pub fn check(sheet: &[u8]) -> u8 {
 /// ```
 /// use planner::calls::{step, StepNumbers};
 ///
-/// let mut numbers = StepNumbers { number: 7, cost: 7, reward: 7 };
+/// let mut numbers = StepNumbers { number: 7, cost: 7, reward: 7, units: 7 };
 /// assert_eq!(step(&[], 0, 33, &mut numbers), 2);
 /// assert_eq!(numbers, StepNumbers::default());
 /// ```
@@ -66,7 +74,8 @@ pub fn step(sheet: &[u8], node: u32, code: u16, numbers: &mut StepNumbers) -> u8
 /// ```
 /// use planner::calls::{plan, PlanNumbers};
 ///
-/// let mut numbers = PlanNumbers { p: 7, q: 7, n: 7, s: 7, m: 7 };
+/// let mut numbers =
+///     PlanNumbers { p: 7, q: 7, n: 7, s: 7, m: 7, units: 7, cost: 7, reward: 7 };
 /// let mut nodes = [7; 2047];
 /// assert_eq!(plan(&[], &mut nodes, &mut [7; 2048], &mut [7; 2048], &mut numbers), 1);
 /// assert_eq!(nodes, [7; 2047]);

@@ -14,6 +14,7 @@ mod raw {
             number: *mut u32,
             cost: *mut i64,
             reward: *mut i64,
+            units: *mut i64,
         ) -> u8;
         pub fn planner_plan(
             sheet: *const u8,
@@ -29,6 +30,9 @@ mod raw {
             n: *mut i64,
             s: *mut i64,
             m: *mut i64,
+            units: *mut i64,
+            cost: *mut i64,
+            reward: *mut i64,
         ) -> u8;
         pub fn planner_work(
             sheet: *const u8,
@@ -60,6 +64,7 @@ pub fn step(sheet: &[u8], node: u32, code: u16, numbers: &mut StepNumbers) -> u8
             &mut numbers.number,
             &mut numbers.cost,
             &mut numbers.reward,
+            &mut numbers.units,
         )
     }
 }
@@ -88,6 +93,9 @@ pub fn plan(
             &mut numbers.n,
             &mut numbers.s,
             &mut numbers.m,
+            &mut numbers.units,
+            &mut numbers.cost,
+            &mut numbers.reward,
         )
     }
 }

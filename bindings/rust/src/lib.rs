@@ -56,6 +56,8 @@ pub struct Step {
     pub cost: i64,
     /// What the step earns.
     pub reward: i64,
+    /// The units of time that it takes: 1 for [`UNIT`], 0 for any other code.
+    pub units: i64,
 }
 
 /// Checks a sheet: questions 2 to 11 and 17.
@@ -73,12 +75,13 @@ pub fn check(sheet: &[u8]) -> Result<(), Refusal> {
 /// ```
 /// let bench = [1, 1, 1, 1, 5, 1, 0, 5, 15, 0, 0, 0, 5, 0, 2, 0, 1, 2];
 /// let step = planner::step(&bench, 0, planner::MOVE)?;
-/// assert_eq!((step.cost, step.reward), (0, 0));
+/// assert_eq!((step.cost, step.reward, step.units), (0, 0, 0));
 /// assert_eq!(planner::step(&bench, 0, 0).unwrap_err().number(), 16);
 /// # Ok::<(), planner::Refusal>(())
 /// ```
 pub fn step(sheet: &[u8], node: u32, code: u16) -> Result<Step, Refusal> {
     let mut numbers = calls::StepNumbers::default();
     Refusal::of(calls::step(sheet, node, code, &mut numbers))?;
-    Ok(Step { node: numbers.number, cost: numbers.cost, reward: numbers.reward })
+    let calls::StepNumbers { number: node, cost, reward, units } = numbers;
+    Ok(Step { node, cost, reward, units })
 }

@@ -28,6 +28,12 @@ pub struct Plan<'a> {
     pub stem: &'a [u16],
     /// The codes of the steps of a cycle that earns and has the ratio; at least one.
     pub cycle: &'a [u16],
+    /// The units of time that the cycle takes.
+    pub units: i64,
+    /// What the cycle costs: as its steps add up, and not in lowest terms.
+    pub cost: i64,
+    /// What the cycle earns; its cost over this is p / q.
+    pub reward: i64,
 }
 
 impl Planner {
@@ -51,11 +57,12 @@ impl Planner {
         let Planner { nodes, potentials, steps } = self;
         let mut numbers = PlanNumbers::default();
         Refusal::of(calls::plan(sheet, nodes, potentials, steps, &mut numbers))?;
-        let PlanNumbers { p, q, n, s, m } = numbers;
+        let PlanNumbers { p, q, n, s, m, units, cost, reward } = numbers;
         // n, s and m count entries of the buffers
         let (n, s, m) = (n as usize, s as usize, m as usize);
         let (stem, cycle) = steps[..s + m].split_at(s);
-        Ok(Plan { p, q, nodes: &nodes[..n], potentials: &potentials[..n], stem, cycle })
+        let (nodes, potentials) = (&nodes[..n], &potentials[..n]);
+        Ok(Plan { p, q, nodes, potentials, stem, cycle, units, cost, reward })
     }
 }
 

@@ -41,16 +41,18 @@ fn the_lasso_is_walked_and_has_the_ratio() {
     let mut planner = Planner::default();
     let plan = planner.plan(&BENCH).expect("Bench is accepted");
     let walk = |from: u32, codes: &[u16]| {
-        codes.iter().fold((from, 0, 0), |(node, cost, reward), &code| {
+        codes.iter().fold((from, 0, 0, 0), |(node, units, cost, reward), &code| {
             let next = step(&BENCH, node, code).expect("the lasso is a walk");
-            (next.node, cost + next.cost, reward + next.reward)
+            (next.node, units + next.units, cost + next.cost, reward + next.reward)
         })
     };
     let (knot, ..) = walk(0, plan.stem);
-    let (end, cost, reward) = walk(knot, plan.cycle);
+    let (end, units, cost, reward) = walk(knot, plan.cycle);
     assert_eq!(end, knot);
     assert!(reward > 0);
     assert_eq!(cost * plan.q, reward * plan.p);
+    assert_eq!((plan.units, plan.cost, plan.reward), (units, cost, reward));
+    assert_eq!((units, cost, reward), (1, 6, 2));
     assert!(plan.cycle.contains(&UNIT));
 }
 
@@ -121,7 +123,8 @@ fn a_sheet_with_a_strict_bound_or_guard_has_no_work_plan() {
 fn checks_and_steps() {
     assert_eq!(check(&BENCH), Ok(()));
     assert_eq!(check(&BENCH[..17]).expect_err("a byte less").number(), 5);
-    assert_eq!(step(&BENCH, 0, MOVE), Ok(Step { node: 5, cost: 0, reward: 0 }));
+    assert_eq!(step(&BENCH, 0, MOVE), Ok(Step { node: 5, cost: 0, reward: 0, units: 0 }));
+    assert_eq!(step(&BENCH, 5, UNIT), Ok(Step { node: 4, cost: 1, reward: 0, units: 1 }));
     assert_eq!(step(&BENCH, 0, UNIT).expect_err("a clock has no fraction").number(), 16);
     assert_eq!(step(&BENCH, u32::MAX, MOVE).expect_err("no node").number(), 15);
     assert_eq!(step(&[], 0, MOVE).expect_err("no sheet").number(), 2);
@@ -138,13 +141,14 @@ fn a_refusal_says_its_question() {
 #[test]
 fn every_number_is_written_by_a_refused_call() {
     for (sheet, refusal) in [(&BENCH[..], 16), (&EDGE_TWICE[..], 17)] {
-        let mut numbers = StepNumbers { number: 7, cost: 7, reward: 7 };
+        let mut numbers = StepNumbers { number: 7, cost: 7, reward: 7, units: 7 };
         assert_eq!(calls::step(sheet, 0, 34, &mut numbers), refusal);
         assert_eq!(numbers, StepNumbers::default());
     }
     // The entry that stands in the buffers afterwards: 7 where they are not written to.
     for (sheet, refusal, entry) in [(&BENCH[..17], 5, 7), (&EDGE_TWICE, 17, 7), (&NO_EDGE, 13, 0)] {
-        let mut numbers = PlanNumbers { p: 7, q: 7, n: 7, s: 7, m: 7 };
+        let mut numbers =
+            PlanNumbers { p: 7, q: 7, n: 7, s: 7, m: 7, units: 7, cost: 7, reward: 7 };
         let (mut nodes, mut potentials) = ([7; LEAST_ENTRIES], [7; LEAST_ENTRIES + 1]);
         let mut steps = [7; LEAST_ENTRIES];
         let answer = calls::plan(sheet, &mut nodes, &mut potentials, &mut steps, &mut numbers);

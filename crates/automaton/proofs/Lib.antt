@@ -13,6 +13,7 @@ pub mod Walks
 pub mod Nodes
 pub mod Reached
 pub mod Corners
+pub mod Times
 pub mod Ratios
 pub mod Potentials
 pub mod Covers

@@ -1,5 +1,5 @@
 -- Laws of walks and reachable nodes, for any steps by code.
-use mathlib.Core.Path.{_≡_, ap, _∙_}
+use mathlib.Core.Path.{_≡_, sym, ap, ap₂, _∙_}
 use mathlib.Core.List.{List, [], _∷_, _++_}
 use mathlib.Core.Option.{Option, some}
 use Prim.Native.Nat.{ℕ, _+_}
@@ -7,7 +7,7 @@ use native.Mathlib.Nat.{add-zero}
 use lib.IntN.{ℤ, pos, _+ℤ_, +ℤ-idr}
 use Rattle.automaton.specs.Priced.{Priced, andThen, chain}
 use Rattle.automaton.specs.Walks.{Walk, Reachable}
-use Rattle.automaton.proofs.Chains.{chain-holds, chain-append, chain-one, chain-nil}
+use Rattle.automaton.proofs.Chains.{some-inj, chain-holds, chain-append, chain-one, chain-nil}
 
 module _ {S : Type 0} (step : S → ℕ → Option (Priced S)) where
   pub walk-nil : (u : S) → Walk step u [] u (pos 0) 0
@@ -24,6 +24,11 @@ module _ {S : Type 0} (step : S → ℕ → Option (Priced S)) where
     walks = chain-append step u k l ∙ ap (λ (o : Option (Priced S)). andThen o (λ y. chain step y l)) (a .walks)
         ∙ ap (λ (o : Option (Priced S)). andThen (some (record { to = v; cost = c; reward = r })) (λ y. o)) (b .walks);
   }
+
+  -- one list of codes leads from one node to one node, at one price
+  pub same-walk : {u u' v v' : S} {l l' : List ℕ} {c c' : ℤ} {r r' : ℕ} → Walk step u l v c r → Walk step u' l' v' c' r' → u ≡ u' → l ≡ l'
+      → _≡_ {A = Priced S} (record { to = v; cost = c; reward = r }) (record { to = v'; cost = c'; reward = r' })
+  same-walk w w' p q = some-inj (sym (w .walks) ∙ ap₂ (chain step) p q ∙ w' .walks)
 
   -- what holds of nothing, of one step, and of two parts together, holds of a walk
   pub walk-holds : (P : ℤ → ℕ → S → S → Type 0)

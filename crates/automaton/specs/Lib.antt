@@ -7,6 +7,7 @@ pub mod Nodes
 pub mod Steps
 pub mod Walks
 pub mod Runs
+pub mod Times
 pub mod Loops
 pub mod Weights
 pub mod Ratios

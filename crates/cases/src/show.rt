@@ -9,7 +9,7 @@ fn signed(z: i16) {
     io::print_decimal(STDOUT_FILENO, signs::magnitude(z as i64));
 }
 
-// Refusal, node, cost and reward.
+// Refusal, node, cost, reward and units.
 pub(crate) fn stepped(r: Stepped) {
     io::print_decimal(STDOUT_FILENO, r.refusal as u64);
     io::write_all(STDOUT_FILENO, b" ");
@@ -18,5 +18,7 @@ pub(crate) fn stepped(r: Stepped) {
     signed(r.cost);
     io::write_all(STDOUT_FILENO, b" ");
     io::print_decimal(STDOUT_FILENO, r.reward as u64);
+    io::write_all(STDOUT_FILENO, b" ");
+    io::print_decimal(STDOUT_FILENO, r.units as u64);
     io::write_all(STDOUT_FILENO, b"\n");
 }

@@ -8,6 +8,7 @@ use lib.IntN.{ℤ, pos, _+ℤ_}
 use lib.ListN.{length, length-map}
 use Rattle.automaton.specs.Priced.{Priced, joined, andThen, chain}
 use Rattle.automaton.specs.Walks.{Walk, Reachable, ReachableCycle}
+use Rattle.automaton.specs.Times.{unitsOf, unitsAlong}
 use Rattle.automaton.proofs.Chains.{some-inj, then-split}
 use Rattle.walks.specs.Walk as Graph
 use Rattle.walks.specs.Walk.{at, atℤ}
@@ -15,7 +16,10 @@ use Rattle.walks.specs.Weight.{sum, total}
 use Rattle.contract.specs.Accepted.{Listed}
 use Rattle.contract.specs.Explored.{Found, Explored}
 
--- cost and reward of a list of arcs
+-- units, cost and reward of a list of arcs
+abbrev pub unitsOver : Found → List ℕ → ℕ
+unitsOver g = total (λ e. unitsOf (at (g .code) e))
+
 abbrev pub costOf : Found → List ℕ → ℤ
 costOf g = sum (atℤ (g .cost))
 
@@ -25,6 +29,11 @@ rewardOf g = total (at (g .reward))
 -- the codes along a list of arcs
 abbrev pub codesOf : Found → List ℕ → List ℕ
 codesOf g = map (at (g .code))
+
+pub units-arcs : (g : Found) (l : List ℕ) → unitsAlong (codesOf g l) ≡ unitsOver g l
+unfolding unitsAlong
+units-arcs g [] = refl
+units-arcs g (e ∷ l) = ap (λ (n : ℕ). unitsOf (at (g .code) e) + n) (units-arcs g l)
 
 -- the arc that stands for a step
 pub record Taken (g : Found) (a code : ℕ) (v : Priced ℕ) : Type 0 where

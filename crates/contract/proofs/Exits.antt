@@ -115,18 +115,32 @@ module _ (bytes : List ℕ) (before after : Buffers) (g : Found) (p : ℤ) (q : 
   feasible : Feasible step start p q (Accepting.ϕ g D)
   feasible = Accepting.feasible x p q D (h .potentials)
 
-  plan-accepted : Accepted step start p q (g .n) (length stem) (length cycle) (after .nodes) (after .potentials) (after .steps)
+  steps-room : length stem + length cycle ≤ length (after .steps)
+  steps-room = omega (arith, short, x .few, h .long .steps, h .lengths .steps)
+
+  plan-accepted : Accepted step start p q (g .n) (length stem) (length cycle) (Arcs.unitsOver g cycle) (Arcs.costOf g cycle) (Arcs.rewardOf g cycle)
+      (after .nodes) (after .potentials) (after .steps)
   plan-accepted = record {
     ratio = least-ratio step start p q (Accepting.ϕ g D) feasible (h .lowest) (Arcs.costOf g cycle) (Arcs.rewardOf g cycle) reachable-cycle (h .earns) (h .exact);
     node-list = Accepting.node-list x order (after .nodes) (h .sorted) (h .nodes-rest);
     potential-list = Accepting.potential-list x p q D (h .potentials) order (after .nodes) (h .sorted)
         (after .potentials) (h .permuted) (h .potentials-rest);
-    lasso = Lassos.lasso-steps x stem cycle (h .lasso) (after .steps)
-        (omega (arith, short, x .few, h .long .steps, h .lengths .steps)) (h .codes) p q (h .earns) (h .exact) (h .steps-rest);
+    lasso = Lassos.lasso-steps x stem cycle (h .lasso) (after .steps) steps-room (h .codes) p q (h .earns) (h .exact) (h .steps-rest);
+    sums = Lassos.lasso-sums x stem cycle (h .lasso) (after .steps) steps-room (h .codes) p q (h .earns) (h .exact) (h .steps-rest);
     short = short;
   }
 
-  pub accepted : Planned bytes before after (record { refusal = 0; p = p; q = q; n = g .n; s = length stem; m = length cycle })
+  pub accepted : Planned bytes before after (record {
+    refusal = 0;
+    p = p;
+    q = q;
+    n = g .n;
+    s = length stem;
+    m = length cycle;
+    units = Arcs.unitsOver g cycle;
+    cost = Arcs.costOf g cycle;
+    reward = Arcs.rewardOf g cycle;
+  })
   accepted = record {
     judged = explored (h .long) (h .checked) (all-yes refl
         (Counts.few-listed step start (g .node) (g .n) (x .few) (Arcs.listed x))

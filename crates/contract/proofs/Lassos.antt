@@ -8,16 +8,17 @@ use native.Mathlib.Omega.{arith}
 use lib.IntN.{ℤ, pos, _*ℤ_}
 use lib.ListN.{length, take, drop, length-append, length-map}
 use lib.Seq.{slice, take-take, take-append-seam, drop-append-seam, getD-take, ext-getD, length-take-le}
-use Rattle.automaton.specs.Priced.{Priced, chain}
+use Rattle.automaton.specs.Priced.{Priced}
 use Rattle.automaton.specs.Walks.{Walk}
-use Rattle.automaton.proofs.Chains.{some-inj}
+use Rattle.automaton.specs.Times.{unitsAlong}
+use Rattle.automaton.proofs.Walks.{same-walk}
 use Rattle.walks.specs.Walk as Graph
 use Rattle.walks.specs.Walk.{at}
 use Rattle.walks.specs.Lasso.{ArcLasso}
 use Rattle.walks.proofs.Lassos as GraphLassos
-use Rattle.contract.specs.Accepted.{Lasso}
+use Rattle.contract.specs.Accepted.{Lasso, CycleSums}
 use Rattle.contract.specs.Explored.{Found, Explored}
-use Rattle.contract.proofs.Arcs.{costOf, rewardOf, codesOf, walk-of, start-walk}
+use Rattle.contract.proofs.Arcs.{unitsOver, costOf, rewardOf, codesOf, units-arcs, walk-of, start-walk}
 
 map-take : (f : ℕ → ℕ) (i : ℕ) (l : List ℕ) → take i (map f l) ≡ map f (take i l)
 map-take f zero l = refl
@@ -72,7 +73,7 @@ module _ {step : ℕ → ℕ → Option (Priced ℕ)} {start : ℕ} {g : Found} 
     leads i h z c r w =
         let v = start-walk x (take i arcs) (at (g .from) (at arcs i))
         (front-walk (g .from) (g .to) (g .m) 0 arcs (o .hub) i whole (omega (arith, all))) in
-        ap (λ (u : Priced ℕ). u .to) (some-inj (sym (w .walks) ∙ ap (chain step start) (front i (omega arith)) ∙ v .walks))
+        ap (λ (u : Priced ℕ). u .to) (same-walk step w v refl (front i (omega arith)))
 
     stem-codes : take (length stem) steps ≡ codesOf g stem
     stem-codes = front (length stem) (omega arith) ∙ ap (codesOf g) (take-append-seam stem cycle)
@@ -102,3 +103,10 @@ module _ {step : ℕ → ℕ → Option (Priced ℕ)} {start : ℕ} {g : Found} 
       exact = exact;
       rest = rest;
     }
+
+    -- with the sums over the cycle's arcs
+    pub lasso-sums : (p : ℤ) (q : ℕ) (earns : 0 < rewardOf g cycle) (exact : pos q *ℤ costOf g cycle ≡ p *ℤ pos (rewardOf g cycle))
+        (rest : (i : ℕ) → size ≤ i → i < length steps → at steps i ≡ 0)
+        → CycleSums step start p q (lasso-steps p q earns exact rest) (unitsOver g cycle) (costOf g cycle) (rewardOf g cycle)
+    unfolding lasso-steps
+    lasso-sums p q earns exact rest = record { units-are = sym (ap unitsAlong cycle-codes ∙ units-arcs g cycle); cost-is = refl; reward-is = refl }

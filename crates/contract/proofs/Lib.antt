@@ -13,6 +13,7 @@ pub mod JustWhen
 pub mod Causes
 pub mod Rising
 pub mod Unique
+pub mod CycleSums
 pub mod Tests
 pub mod Certificates
 pub mod ChangesHold

@@ -37,7 +37,8 @@ module _ {bytes : List ℕ} {before after : Buffers} {a : Answer} (h : Planned b
   is-sound : Sound A
   is-sound = sound bytes passed
 
-  accepted : Accepted (stepOn bytes) (startOf bytes) (a .p) (a .q) (a .n) (a .s) (a .m) (after .nodes) (after .potentials) (after .steps)
+  accepted : Accepted (stepOn bytes) (startOf bytes) (a .p) (a .q) (a .n) (a .s) (a .m) (a .units) (a .cost) (a .reward)
+      (after .nodes) (after .potentials) (after .steps)
   accepted = h .accepted ok
 
   least : LeastRatio (step A) (startNode A) (a .p) (a .q)
@@ -86,9 +87,11 @@ module _ {bytes : List ℕ} {before after : Buffers} {a : Answer} (h : Planned b
       }
 
   pub on-nodes : OnNodes bytes a after
+  unfolding lasso accepted
   on-nodes = record {
     ratio = least;
     entry = entry;
     lasso = lasso;
+    sums = record { units-are = accepted .sums .units-are; cost-is = accepted .sums .cost-is; reward-is = accepted .sums .reward-is };
     complete = λ u r. accepted .node-list .complete (number y u) (number-reached y A has-room is-sound r);
   }

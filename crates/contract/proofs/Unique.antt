@@ -1,28 +1,30 @@
 -- The contract leaves nothing open but the lasso: two answers that meet it for the same sheet, and buffers of the same lengths, agree in the
--- refusal, the ratio, the number of nodes, the node list and the potentials.
-use mathlib.Core.Path.{_≡_, refl, sym, ap, _∙_}
+-- refusal, the ratio, the number of nodes, the node list and the potentials; and what they tell of the same lasso is the same.
+use mathlib.Core.Path.{_≡_, refl, sym, ap, ap₂, _∙_}
 use mathlib.Core.List.{List}
 use mathlib.Core.Option.{Option}
-use Prim.Native.Nat.{ℕ, _≤_, _<_}
+use Prim.Native.Nat.{ℕ, _+_, _≤_, _<_}
 use native.Mathlib.Decide.{decLt}
 use native.Mathlib.Omega.{arith}
 use lib.IntN.{ℤ, pos}
-use lib.ListN.{length, getD}
-use lib.Seq.{ext-getD}
+use lib.ListN.{length, getD, take}
+use lib.Seq.{slice, ext-getD}
 use Rattle.automaton.specs.Priced.{Priced}
+use Rattle.automaton.specs.Times.{unitsAlong}
 use Rattle.automaton.specs.Weights.{Potential}
+use Rattle.automaton.proofs.Walks.{same-walk}
 use Rattle.automaton.proofs.Potentials.{least-unique}
 use Rattle.automaton.proofs.Ratios.{ratio-unique}
 use Rattle.walks.specs.Walk.{at, atℤ}
 use Rattle.contract.specs.Accepted.{Accepted}
-use Rattle.contract.specs.Plan.{Answer, refusedPlan, Buffers, SameLengths, Passed, Judged, too-short, faulty, explored, Planned}
+use Rattle.contract.specs.Plan.{Answer, refusedPlan, Buffers, SameLengths, Passed, stepOn, Judged, too-short, faulty, explored, Planned}
 use Rattle.contract.specs.Answers.{Agree}
 use Rattle.contract.proofs.JustWhen.{refusal-unique}
 use Rattle.contract.proofs.Rising.{same-count, same-entry}
 
 -- ---- accepted
-module _ {step : ℕ → ℕ → Option (Priced ℕ)} {start : ℕ} {p p' : ℤ} {q q' n n' s s' m m' : ℕ} {N N' : List ℕ} {P P' : List ℤ} {S S' : List ℕ}
-    (a : Accepted step start p q n s m N P S) (b : Accepted step start p' q' n' s' m' N' P' S') where
+module _ {step : ℕ → ℕ → Option (Priced ℕ)} {start : ℕ} {p p' : ℤ} {q q' n n' s s' m m' u u' : ℕ} {c c' : ℤ} {r r' : ℕ} {N N' : List ℕ} {P P' : List ℤ}
+    {S S' : List ℕ} (a : Accepted step start p q n s m u c r N P S) (b : Accepted step start p' q' n' s' m' u' c' r' N' P' S') where
   ratio : (p ≡ p') × (q ≡ q')
   ratio = ratio-unique step start p p' q q' (a .ratio) (b .ratio)
 
@@ -99,3 +101,25 @@ module _ {bytes : List ℕ} {before after after' : Buffers} {a a' : Answer}
               (agree .potentials) (x .potential-list .rest) (y .potential-list .rest),
         ))
   ]
+
+-- ---- the lasso
+
+-- plans with the same lasso tell the same of it
+module _ {bytes : List ℕ} {before before' after after' : Buffers} {a a' : Answer} (h : Planned bytes before after a) (k : Planned bytes before' after' a')
+    (ok : a .refusal ≡ 0) (ok' : a' .refusal ≡ 0) (s : a .s ≡ a' .s) (m : a .m ≡ a' .m) (steps : after .steps ≡ after' .steps) where
+  cycle : slice (a .s) (a .s + a .m) (after .steps) ≡ slice (a' .s) (a' .s + a' .m) (after' .steps)
+  cycle = λ i. slice (s i) (s i + m i) (steps i)
+
+  node : h .accepted ok .lasso .node ≡ k .accepted ok' .lasso .node
+  node = ap (λ (v : Priced ℕ). v .to) (same-walk (stepOn bytes) (h .accepted ok .lasso .stem) (k .accepted ok' .lasso .stem) refl (ap₂ take s steps))
+
+  priced : let l = h .accepted ok .lasso in let l' = k .accepted ok' .lasso in
+      _≡_ {A = Priced ℕ} (record { to = l .node; cost = l .cost; reward = l .reward }) (record { to = l' .node; cost = l' .cost; reward = l' .reward })
+  priced = same-walk (stepOn bytes) (h .accepted ok .lasso .cycle) (k .accepted ok' .lasso .cycle) node cycle
+
+  pub sums-fixed : (a .units ≡ a' .units) × (a .cost ≡ a' .cost) × (a .reward ≡ a' .reward)
+  sums-fixed = let x = h .accepted ok .sums in let y = k .accepted ok' .sums in (
+    x .units-are ∙ ap unitsAlong cycle ∙ sym (y .units-are),
+    x .cost-is ∙ ap (λ (v : Priced ℕ). v .cost) priced ∙ sym (y .cost-is),
+    x .reward-is ∙ ap (λ (v : Priced ℕ). v .reward) priced ∙ sym (y .reward-is),
+  )

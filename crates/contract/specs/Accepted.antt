@@ -1,4 +1,4 @@
--- What stands in the buffers where a plan is accepted, for any steps by code.
+-- What stands in the answer and in the buffers where a plan is accepted, for any steps by code.
 use mathlib.Core.Path.{_≡_}
 use mathlib.Core.List.{List}
 use mathlib.Core.Option.{Option}
@@ -7,6 +7,7 @@ use lib.IntN.{ℤ, pos, natAbs, _*ℤ_}
 use lib.ListN.{length, take}
 use lib.Seq.{slice}
 use Rattle.automaton.specs.Priced.{Priced}
+use Rattle.automaton.specs.Times.{unitsAlong}
 use Rattle.automaton.specs.Walks.{Walk, Reachable}
 use Rattle.automaton.specs.Weights.{Potential}
 use Rattle.automaton.specs.Ratios.{LeastRatio}
@@ -38,6 +39,12 @@ module _ {S : Type 0} (step : S → ℕ → Option (Priced S)) (start : S) (p : 
     pub exact : pos q *ℤ cost ≡ p *ℤ pos reward
     pub rest : (i : ℕ) → s + m ≤ i → i < length steps → at steps i ≡ 0
 
+  -- "the cycle's units, its cost and its reward": the sums along the cycle of that lasso, as it stands among the step codes
+  pub record CycleSums {s m : ℕ} {steps : List ℕ} (lasso : Lasso s m steps) (units : ℕ) (cost : ℤ) (reward : ℕ) : Type 0 where
+    pub units-are : units ≡ unitsAlong (slice s (s + m) steps)
+    pub cost-is : cost ≡ lasso .cost
+    pub reward-is : reward ≡ lasso .reward
+
 module _ (step : ℕ → ℕ → Option (Priced ℕ)) (start : ℕ) where
   -- "n reachable nodes", "node numbers (32-bit, rising)": the first n entries are the reachable ones, each of them and no other
   pub record NodeList (n : ℕ) (nodes : List ℕ) : Type 0 where
@@ -54,10 +61,11 @@ module _ (step : ℕ → ℕ → Option (Priced ℕ)) (start : ℕ) where
       pub small : (i : ℕ) → i < n → natAbs (atℤ potentials i) < 1000000000000000
       pub rest : (i : ℕ) → n ≤ i → i < length potentials → atℤ potentials i ≡ pos 0
 
-    pub record Accepted (n s m : ℕ) (nodes : List ℕ) (potentials : List ℤ) (steps : List ℕ) : Type 0 where
+    pub record Accepted (n s m units : ℕ) (cost : ℤ) (reward : ℕ) (nodes : List ℕ) (potentials : List ℤ) (steps : List ℕ) : Type 0 where
       -- "the ratio p/q in lowest terms": some reachable cycle has it, and none is below it
       pub ratio : LeastRatio step start p q
       pub node-list : NodeList n nodes
       pub potential-list : PotentialList n nodes potentials
       pub lasso : Lasso step start p q s m steps
+      pub sums : CycleSums step start p q lasso units cost reward
       pub short : s + m ≤ n

@@ -11,7 +11,7 @@ use Rattle.automaton.specs.Ratios.{LeastRatio}
 use Rattle.nodes.specs.Numbers.{number}
 use Rattle.nodes.specs.Meaning.{meaning, layoutOf}
 use Rattle.walks.specs.Walk.{at, atℤ}
-use Rattle.contract.specs.Accepted.{Listed, Lasso}
+use Rattle.contract.specs.Accepted.{Listed, Lasso, CycleSums}
 use Rattle.contract.specs.Plan.{Answer, Buffers}
 
 module _ (bytes : List ℕ) (a : Answer) (after : Buffers) where
@@ -27,3 +27,4 @@ module _ (bytes : List ℕ) (a : Answer) (after : Buffers) where
     pub entry : (i : ℕ) → i < a .n → EntryOfNode i
     pub complete : (u : Node) → Reachable (step (meaning bytes)) (startNode (meaning bytes)) u → Listed (after .nodes) (a .n) (number (layoutOf bytes) u)
     pub lasso : Lasso (step (meaning bytes)) (startNode (meaning bytes)) (a .p) (a .q) (a .s) (a .m) (after .steps)
+    pub sums : CycleSums (step (meaning bytes)) (startNode (meaning bytes)) (a .p) (a .q) lasso (a .units) (a .cost) (a .reward)

@@ -14,7 +14,7 @@ use Rattle.nodes.specs.Meaning.{meaning, layoutOf}
 use Rattle.contract.specs.Questions.{Verdict}
 use Rattle.contract.specs.Accepted.{Accepted}
 
--- the answer: the refusal, the ratio p/q, n reachable nodes, a stem of s steps and a cycle of m
+-- the answer: the refusal, the ratio p/q, n reachable nodes, a stem of s steps and a cycle of m, and that cycle's units, cost and reward
 pub record Answer : Type 0 where
   pub refusal : ℕ
   pub p : ℤ
@@ -22,10 +22,13 @@ pub record Answer : Type 0 where
   pub n : ℕ
   pub s : ℕ
   pub m : ℕ
+  pub units : ℕ
+  pub cost : ℤ
+  pub reward : ℕ
 
 -- "All numbers besides the refusal are 0."
 abbrev pub refusedPlan : ℕ → Answer
-refusedPlan r = record { refusal = r; p = pos 0; q = 0; n = 0; s = 0; m = 0 }
+refusedPlan r = record { refusal = r; p = pos 0; q = 0; n = 0; s = 0; m = 0; units = 0; cost = pos 0; reward = 0 }
 
 -- the three buffers
 pub record Buffers : Type 0 where
@@ -79,6 +82,7 @@ pub record Planned (bytes : List ℕ) (before after : Buffers) (a : Answer) : Ty
   pub cleared : Passed bytes before → 0 < a .refusal → after ≡ zeros before
   pub lengths : SameLengths after before
   pub accepted : a .refusal ≡ 0
-      → Accepted (stepOn bytes) (startOf bytes) (a .p) (a .q) (a .n) (a .s) (a .m) (after .nodes) (after .potentials) (after .steps)
+      → Accepted (stepOn bytes) (startOf bytes) (a .p) (a .q) (a .n) (a .s) (a .m) (a .units) (a .cost) (a .reward)
+      (after .nodes) (after .potentials) (after .steps)
   -- demand 3, over all runs in nths
   pub no-loop-below : a .refusal ≡ 0 → NoLoopBelow (meaning bytes) (a .p) (a .q)

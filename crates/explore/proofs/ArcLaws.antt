@@ -13,13 +13,13 @@ use Rattle.explore.specs.Buffers.{GraphBuffers}
 abbrev pub led : Stepped → Priced ℕ
 led s = record { to = s .number; cost = s .cost; reward = s .reward }
 
-pub allowed : (o : Option (Priced ℕ)) (s : Stepped) → s ≡ answered o → s .refusal ≡ 0 → o ≡ some (led s)
-allowed none s p q = absurd (let z : 16 ≡ 0 = sym (ap (λ (s : Stepped). s .refusal) p) ∙ q in omega arith)
-allowed (some v) s p q = ap (λ (s : Stepped). some (led s)) (sym p)
+pub allowed : (code : ℕ) (o : Option (Priced ℕ)) (s : Stepped) → s ≡ answered code o → s .refusal ≡ 0 → o ≡ some (led s)
+allowed code none s p q = absurd (let z : 16 ≡ 0 = sym (ap (λ (s : Stepped). s .refusal) p) ∙ q in omega arith)
+allowed code (some v) s p q = ap (λ (s : Stepped). some (led s)) (sym p)
 
-pub refused : (o : Option (Priced ℕ)) (s : Stepped) → s ≡ answered o → (s .refusal ≡ 0 → ⊥) → o ≡ none
-refused none s p q = refl
-refused (some v) s p q = absurd (q (ap (λ (s : Stepped). s .refusal) p))
+pub refused : (code : ℕ) (o : Option (Priced ℕ)) (s : Stepped) → s ≡ answered code o → (s .refusal ≡ 0 → ⊥) → o ≡ none
+refused code none s p q = refl
+refused code (some v) s p q = absurd (q (ap (λ (s : Stepped). s .refusal) p))
 
 -- the arc m is written, from node i to node j, for the step with code k
 pub record Pushed (b b' : GraphBuffers) (m i j k : ℕ) (s : Stepped) : Type 0 where

@@ -45,14 +45,14 @@ pub record Taken (step : ℕ → ℕ → Option (Priced ℕ)) (start : ℕ) (b�
   pub code : k < 34
   pub turn : t ≡ 34 * i + k
   pub left : t < 34 * n
-  pub told : s ≡ answered (step (at (b .node) i) k)
+  pub told : s ≡ answered k (step (at (b .node) i) k)
 
 module _ {step : ℕ → ℕ → Option (Priced ℕ)} {start : ℕ} {b₀ b : GraphBuffers} {n m i k t : ℕ} {s : Stepped} (w : Taken step start b₀ b n m i k t s) where
   leads : s .refusal ≡ 0 → step (at (b .node) i) k ≡ some (led s)
-  leads e = allowed (step (at (b .node) i) k) s (w .told) e
+  leads e = allowed k (step (at (b .node) i) k) s (w .told) e
 
   pub no-arc : (s .refusal ≡ 0 → ⊥) → Searched step start (seeded b₀) b n m (t + 1)
-  no-arc e = skip step start (seeded b₀) b n m i k t (w .searched) (w .code) (w .turn) (w .left) (refused (step (at (b .node) i) k) s (w .told) e)
+  no-arc e = skip step start (seeded b₀) b n m i k t (w .searched) (w .code) (w .turn) (w .left) (refused k (step (at (b .node) i) k) s (w .told) e)
 
   module _ (ok : s .refusal ≡ 0) where
     pub stopped : (N K I P : List ℕ) (j : ℕ) → Entered (b .node) (b .sorted) (b .order) (b .tree) N K I P n (s .number) m j → j ≡ 2048

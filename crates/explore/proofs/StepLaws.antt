@@ -3,7 +3,7 @@ use mathlib.Core.Path.{_≡_, refl, sym, ap, subst, _∙_}
 use mathlib.Core.Bool.{Bool, true, false, _&&_}
 use mathlib.Core.Option.{none}
 use mathlib.Core.List.{List}
-use Prim.Native.Nat.{ℕ, zero, suc, _+_, _-_, _≤_, _<_}
+use Prim.Native.Nat.{ℕ, zero, suc, _+_, _≤_, _<_}
 use native.Mathlib.Omega.{arith}
 use native.Mathlib.Decide.{ℕ-discrete, decLt}
 use borrow.Author.Tests.{le-leb, ne-eqb}
@@ -57,17 +57,17 @@ module _ {A : Type 0} (blank : A) (s : List A) (n : ℕ) where
 -- ---- by the records
 module _ (s : Sheet) (x k clocks count : ℕ) (edge : Edge) (location : Location) (r : Records s x k clocks count edge location) where
   abbrev Is : Stepped → Type 0
-  Is v = v ≡ answered (stepBy firstLayout (decodedMeaning s) x k)
+  Is v = v ≡ answered k (stepBy firstLayout (decodedMeaning s) x k)
 
   pub no-edge-there : k < 32 → count ≤ k → Is (refusedStep 16)
   no-edge-there h l = no-edge s x k (omega arith) (omega (arith, r .edges-are))
 
-  pub edge-by-record : k < 32 → k < count → Is (answered (stepBy firstLayout (alone clocks edge location) x 0))
-  edge-by-record h l = ap (λ (c : ℕ). answered (stepBy firstLayout (alone c edge location) x 0)) (r .clocks-are)
+  pub edge-by-record : k < 32 → k < count → Is (answered 0 (stepBy firstLayout (alone clocks edge location) x 0))
+  edge-by-record h l = ap (λ (c : ℕ). answered 0 (stepBy firstLayout (alone c edge location) x 0)) (r .clocks-are)
       ∙ edge-there s x k (omega arith) (omega (arith, r .edges-are)) edge (r .edge-is h) location (r .target-is h)
 
-  pub delay-by-record : (c : ℕ) → k ≡ c → 31 < c → Is (answered (stepBy firstLayout (alone clocks blankEdge location) x c))
-  delay-by-record c e h = ap (λ (n : ℕ). answered (stepBy firstLayout (alone n blankEdge location) x c)) (r .clocks-are)
+  pub delay-by-record : (c : ℕ) → k ≡ c → 31 < c → Is (answered c (stepBy firstLayout (alone clocks blankEdge location) x c))
+  delay-by-record c e h = ap (λ (n : ℕ). answered c (stepBy firstLayout (alone n blankEdge location) x c)) (r .clocks-are)
       ∙ delay-there s x k c e h location (r .here-is (omega arith))
 
   pub no-step-there : 31 < k → (k ≡ 32 → ⊥) → (k ≡ 33 → ⊥) → Is (refusedStep 16)

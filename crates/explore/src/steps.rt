@@ -74,7 +74,7 @@ pub(crate) fn step_at(
     edge: Edge,
     location: Location,
 ) -> Stepped
-    ensures { λ r. ⌜ ((s : Sheet) → Records s x k clocks count edge location → r ≡ answered (stepBy firstLayout (decodedMeaning s) x k)) ⌝ }
+    ensures { λ r. ⌜ ((s : Sheet) → Records s x k clocks count edge location → r ≡ answered k (stepBy firstLayout (decodedMeaning s) x k)) ⌝ }
 {
     match k {
         0..=31 => {

@@ -35,7 +35,7 @@ pub extern "C" fn planner_check(sheet: &[u8]) -> u8
     sheet::check(sheet)
 }
 
-// A single step: the new node's number, the cost and the reward.
+// A single step: the new node's number, the cost, the reward and the units elapsed.
 #[no_mangle]
 pub extern "C" fn planner_step(
     sheet: &[u8],
@@ -44,20 +44,23 @@ pub extern "C" fn planner_step(
     number: &mut u32,
     cost: &mut i64,
     reward: &mut i64,
+    units: &mut i64,
 ) -> u8
     ensures { λ r. ⌜ r ≡ stepOf (now (sheet .entry)) node code .refusal ⌝ }
     ensures { λ _. ⌜ now (number .exit) ≡ stepOf (now (sheet .entry)) node code .number ⌝ }
     ensures { λ _. ⌜ now (cost .exit) ≡ stepOf (now (sheet .entry)) node code .cost ⌝ }
     ensures { λ _. ⌜ now (reward .exit) ≡ pos (stepOf (now (sheet .entry)) node code .reward) ⌝ }
+    ensures { λ _. ⌜ now (units .exit) ≡ pos (stepOf (now (sheet .entry)) node code .units) ⌝ }
 {
     let s = step::step(sheet, node, code);
     *number = s.number;
     *cost = wide(s.cost);
     *reward = half(s.reward);
+    *units = half(s.units);
     s.refusal
 }
 
-// A plan: the ratio p / q, n reachable nodes, a stem of s steps and a cycle of m.
+// A plan: the ratio p / q, n reachable nodes, a stem of s steps and a cycle of m, and that cycle's units, cost and reward.
 #[no_mangle]
 pub extern "C" fn planner_plan(
     sheet: &[u8],
@@ -69,10 +72,13 @@ pub extern "C" fn planner_plan(
     n: &mut i64,
     s: &mut i64,
     m: &mut i64,
+    units: &mut i64,
+    cost: &mut i64,
+    reward: &mut i64,
 ) -> u8
     ensures { λ r. ⌜ ExportedPlan (now (sheet .entry)) (lentBuffers (now (nodes .entry)) (now (potentials .entry)) (now (steps .entry)))
         (lentBuffers (now (nodes .exit)) (now (potentials .exit)) (now (steps .exit))) r (now (p .exit)) (now (q .exit)) (now (n .exit))
-        (now (s .exit)) (now (m .exit)) ⌝ }
+        (now (s .exit)) (now (m .exit)) (now (units .exit)) (now (cost .exit)) (now (reward .exit)) ⌝ }
 {
     let a = planner::plan(sheet, nodes, potentials, steps);
     let upper = a.p;
@@ -81,6 +87,10 @@ pub extern "C" fn planner_plan(
     *n = half(a.n);
     *s = half(a.s);
     *m = half(a.m);
+    *units = half(a.units);
+    let spent = a.cost;
+    *cost = spent;
+    *reward = word(a.reward);
     a.refusal
 }
 

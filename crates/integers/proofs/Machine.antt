@@ -7,7 +7,7 @@ use lib.IntN.{ℤ, natAbs}
 use mir.Syntax.{Width, w16, w64}
 use mir.Val.{SFits, toZ, ofZ}
 use mir.ValLaws.{toZ-ofZ}
-use Rattle.integers.proofs.Parts.{abs-parts, mag-below}
+use Rattle.integers.proofs.Parts.{abs-parts, mag-parts, mag-below}
 
 -- a range, carried over an equation
 pub carry : {w : Width} {x y : ℤ} → SFits w y → x ≡ y → SFits w x
@@ -30,3 +30,6 @@ module _ (z : ℤ) (fits : SFits w16 z) where
 
   pub widened : toZ w64 (ofZ w64 (toZ w16 (ofZ w16 z))) ≡ z
   widened = back (toZ-ofZ w16 z fits) in-64
+
+  pub widened-small : natAbs (toZ w64 (ofZ w64 (toZ w16 (ofZ w16 z)))) ≤ 32768
+  widened-small = rw widened (omega (arith, fits .sfits, abs-parts z, mag-parts z))

@@ -1,5 +1,5 @@
 -- The way out where the sheet is accepted: what was found and written is the contract.
-use mathlib.Core.Path.{_≡_, sym, ap, ap₂, _∙_, subst}
+use mathlib.Core.Path.{_≡_, sym, ap, _∙_, subst}
 use mathlib.Core.List.{List}
 use Prim.Native.Nat.{ℕ, _+_, _≤_, _<_}
 use native.Mathlib.Omega.{arith}
@@ -11,9 +11,11 @@ use Rattle.lasso.specs.Answer.{LaidOut}
 use Rattle.contract.specs.Plan.{Buffers, SameLengths, Planned, Answer}
 use Rattle.contract.specs.Explored.{Found, Sorted}
 use Rattle.contract.proofs.Checklist.{InHand}
+use Rattle.contract.proofs.Arcs.{unitsOver, costOf, rewardOf}
 use Rattle.contract.proofs.Exits.{accepted}
 use Rattle.planner.specs.ContractTerms as ContractTerms
-use Rattle.planner.specs.PrivatePromises.{Cyclic, Solved, graphOf}
+use Rattle.planner.specs.PrivatePromises.{Cyclic, Solved, SumsOf, graphOf}
+use Rattle.planner.specs.declared.sums.Sums.{Sums}
 use Rattle.planner.proofs.LassoLaws as Laid
 
 -- what stands in the buffers: the potentials in the order of output, the codes of the arcs, the nodes as they were, and zeros behind them
@@ -26,11 +28,11 @@ pub record Written (D : List ℤ) (order C arcs : List ℕ) (n all : ℕ) (lent 
   pub nodes-rest : (i : ℕ) → n ≤ i → i < length (after .nodes) → at (after .nodes) i ≡ 0
   pub lengths : SameLengths after lent
 
-module _ {F T C order tree cycle : List ℕ} {D : List ℤ} {n k s : ℕ} {p : ℤ} {q : ℕ} {arcs arcs' : List ℕ} {lent after : Buffers}
-    (c : Cyclic F T C order tree cycle n k) (sized : length arcs' ≡ 4096) (laid : LaidOut F T tree cycle n k s arcs arcs')
-    (w : Written D order C arcs' n (s + k) lent after) (o : Solved F T C order D cycle n k p q lent) where
+module _ {F T C : List ℕ} {Z : List ℤ} {R order tree cycle : List ℕ} {D : List ℤ} {n k s : ℕ} {p : ℤ} {q : ℕ} {arcs arcs' : List ℕ} {lent after : Buffers}
+    (c : Cyclic F T C Z R order tree cycle n k) (sized : length arcs' ≡ 4096) (laid : LaidOut F T tree cycle n k s arcs arcs')
+    (w : Written D order C arcs' n (s + k) lent after) (o : Solved F T C Z R order D cycle n k p q lent) where
   abbrev g : Found
-  g = graphOf (o .of-sheet .node) F T C (o .cost) (o .reward) n
+  g = graphOf (o .of-sheet .node) F T C Z R n
 
   abbrev stem : List ℕ
   stem = take s arcs'
@@ -75,8 +77,18 @@ module _ {F T C order tree cycle : List ℕ} {D : List ℤ} {n k s : ℕ} {p : �
     };
   }
 
-  -- with the numerator as it is read back
-  pub accepted-planned : {a : Answer} {z : ℤ} → z ≡ p → a ≡ ContractTerms.accepted z q n s k → Planned (o .of-sheet .bytes) (o .of-sheet .before) after a
-  accepted-planned same e = subst (Planned (o .of-sheet .bytes) (o .of-sheet .before) after)
-      (ap₂ (ContractTerms.accepted p q n) stem-sized turned-sized ∙ ap (λ (y : ℤ). ContractTerms.accepted y q n s k) (sym same) ∙ sym e)
+  -- with the numerator as it is read back, and the sums of the cycle
+  pub accepted-planned : {a : Answer} {z : ℤ} {j : ℕ} {sums : Sums} → z ≡ p → j ≡ s + k → SumsOf C Z R arcs' s j sums
+      → a ≡ ContractTerms.accepted z q n s k (sums .units) (sums .cost) (sums .reward) → Planned (o .of-sheet .bytes) (o .of-sheet .before) after a
+  accepted-planned {a} {z} {j} {sums} same there summed e = subst (Planned (o .of-sheet .bytes) (o .of-sheet .before) after)
+      ((λ i. ContractTerms.accepted (sym same i) q n (stem-sized i) (turned-sized i) (sym units i) (sym cost i) (sym reward i)) ∙ sym e)
       (accepted (o .of-sheet .bytes) (o .of-sheet .before) after g p q D order stem turned hand)
+    where
+      units : sums .units ≡ unitsOver g turned
+      units = summed .units ∙ ap (λ (j : ℕ). unitsOver g (slice s j arcs')) there
+
+      cost : sums .cost ≡ costOf g turned
+      cost = summed .cost ∙ ap (λ (j : ℕ). costOf g (slice s j arcs')) there
+
+      reward : sums .reward ≡ rewardOf g turned
+      reward = summed .reward ∙ ap (λ (j : ℕ). rewardOf g (slice s j arcs')) there

@@ -91,7 +91,7 @@ module _ {F T C : List ℕ} {Z : List ℤ} {R order tree : List ℕ} {n : ℕ} (
     least-again = subst (λ (y : ℤ). RatioFound F T Z R n y q k (replicate 2048 (pos 0)) D (replicate 2048 0) cycle)
         (sym (toZ-ofZ w64 p (small p 20480001 (omega (arith, least .p-small)) (omega arith)))) least
 
-    pub cyclic : length cycle ≡ 2048 → Cyclic F T C order tree cycle n k
+    pub cyclic : length cycle ≡ 2048 → Cyclic F T C Z R order tree cycle n k
     cyclic sized = record {
       formed = record {
         few = h .graph .nodes;
@@ -106,6 +106,8 @@ module _ {F T C : List ℕ} {Z : List ℤ} {R order tree : List ℕ} {n : ℕ} (
       simple = least .attained;
       sources = λ a l. h .graph .arc a l .source;
       codes = h .codes;
+      costs = h .graph .costs;
+      rewards = h .graph .rewards;
       ordered = h .ordered;
       order-below = h .order-below;
     }

@@ -3,6 +3,7 @@ use mathlib.Core.Path.{_≡_, sym, ap, _∙_, subst}
 use mathlib.Core.List.{List, _++_}
 use Prim.Native.Nat.{ℕ, _+_, _≤_, _<_}
 use native.Mathlib.Omega.{arith}
+use lib.IntN.{ℤ}
 use lib.ListN.{length, take, replicate, length-replicate}
 use lib.Seq.{slice, length-take-le, length-slice, getD-take}
 use Rattle.walks.specs.Walk.{at}
@@ -16,9 +17,9 @@ use Rattle.lasso.proofs.Laying.{lasso-laid}
 use Rattle.contract.specs.Explored.{Found}
 use Rattle.contract.proofs.Arcs.{costOf, rewardOf}
 use Rattle.contract.proofs.Graphs.{cost-turned, reward-turned}
-use Rattle.planner.specs.PrivatePromises.{Cyclic, Pickable}
+use Rattle.planner.specs.PrivatePromises.{Cyclic, Pickable, Summable}
 
-module _ {F T C order tree cycle : List ℕ} {n k s : ℕ} {arcs arcs' : List ℕ} (c : Cyclic F T C order tree cycle n k)
+module _ {F T C : List ℕ} {Z : List ℤ} {R order tree cycle : List ℕ} {n k s : ℕ} {arcs arcs' : List ℕ} (c : Cyclic F T C Z R order tree cycle n k)
     (sized : length arcs' ≡ 4096) (laid : LaidOut F T tree cycle n k s arcs arcs') where
   abbrev pub stem : List ℕ
   stem = take s arcs'
@@ -45,19 +46,29 @@ module _ {F T C order tree cycle : List ℕ} {n k s : ℕ} {arcs arcs' : List �
   pub joined-at : (i : ℕ) → i < s + k → at (stem ++ turned) i ≡ at arcs' i
   joined-at i h = ap (λ (l : List ℕ). at l i) (sym (slice-join 0 s (s + k) arcs' (omega arith) (omega arith))) ∙ getD-take (s + k) arcs' i 0 h
 
-  arc : (i : ℕ) → i < s + k → at arcs' i < length C
+  arc : (i : ℕ) → i < s + k → at arcs' i < length F
   arc i l = omega (
     arith,
     sym (joined-at i l),
-    c .codes,
     lasso-arc F T (length F) stem turned is-lasso i (omega (arith, stem-sized, turned-sized)),
   )
 
   pub codes-pickable : {j : ℕ} (steps : List ℕ) → 2048 ≤ length steps → j ≤ s + k → Pickable C arcs' j steps
   codes-pickable steps h m = record {
     named = omega (arith, room);
-    there = λ i l. arc i (omega arith);
+    there = λ i l. omega (arith, arc i (omega arith), c .codes);
     room = omega (arith, short, c .formed .few);
+  }
+
+  -- its last arcs
+  pub arcs-summable : {i j : ℕ} → i ≤ s + k → j ≡ s + k → Summable C Z R arcs' i j
+  arcs-summable h e = record {
+    order = omega arith;
+    room = omega (arith, room);
+    few = omega (arith, short, c .formed .few);
+    codes = λ i l. omega (arith, arc i (omega arith), c .codes);
+    costs = λ i l. omega (arith, arc i (omega arith), c .costs);
+    rewards = λ i l. omega (arith, arc i (omega arith), c .rewards);
   }
 
   -- the turned cycle costs and earns what the cycle does

@@ -1,4 +1,5 @@
 pub mod PickedLaws
+pub mod SumLaws
 pub mod LassoLaws
 pub mod AcceptLaws
 pub mod GraphLaws

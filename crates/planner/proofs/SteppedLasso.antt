@@ -1,13 +1,15 @@
 -- The lasso of an accepted plan can be stepped: the public step, asked from the start with each of its codes in turn, answers 0 each time and leads
--- through the nodes of the lasso, with its costs and rewards.
-use mathlib.Core.Path.{_≡_}
+-- through the nodes of the lasso, with its costs and rewards. What it answers along the cycle adds up to the units, the cost and the reward of the plan.
+use mathlib.Core.Path.{_≡_, sym, _∙_}
 use mathlib.Core.List.{List}
-use Prim.Native.Nat.{ℕ}
+use Prim.Native.Nat.{ℕ, _+_}
+use lib.Seq.{slice}
 use Rattle.automaton.specs.Walks.{Reachable}
 use Rattle.automaton.proofs.Walks.{reach-start, reach-walk}
-use Rattle.step.specs.Step.{asked}
+use Rattle.step.specs.Step.{asked, unitsAsked}
 use Rattle.step.proofs.AskedLaws.{walk-asked, asked-walk}
-use Rattle.contract.specs.Accepted.{Lasso}
+use Rattle.step.proofs.UnitLaws.{units-asked}
+use Rattle.contract.specs.Accepted.{Lasso, CycleSums}
 use Rattle.contract.specs.Plan.{Answer, Buffers, Planned, stepOn, startOf}
 use Rattle.contract.proofs.OnNodes.{passed}
 
@@ -30,3 +32,10 @@ module _ {bytes : List ℕ} {before after : Buffers} {a : Answer} (h : Planned b
     exact = l .exact;
     rest = l .rest;
   }
+
+  pub stepped-sums : CycleSums (asked bytes) (startOf bytes) (a .p) (a .q) stepped-lasso (a .units) (a .cost) (a .reward)
+  unfolding stepped-lasso
+  stepped-sums = let s = h .accepted ok .sums in record { units-are = s .units-are; cost-is = s .cost-is; reward-is = s .reward-is }
+
+  pub stepped-units : unitsAsked bytes (stepped-lasso .node) (slice (a .s) (a .s + a .m) (after .steps)) ≡ a .units
+  stepped-units = units-asked bytes (stepped-lasso .cycle) ∙ sym (h .accepted ok .sums .units-are)

@@ -9,7 +9,18 @@ abbrev pub lentBuffers : List ℕ → List ℤ → List ℕ → Contract.Buffers
 lentBuffers nodes potentials steps = record { nodes = nodes; potentials = potentials; steps = steps }
 
 abbrev pub answerOf : Answer → Contract.Answer
-answerOf a = record { refusal = a .refusal; p = a .p; q = a .q; n = a .n; s = a .s; m = a .m }
+answerOf a = record {
+  refusal = a .refusal;
+  p = a .p;
+  q = a .q;
+  n = a .n;
+  s = a .s;
+  m = a .m;
+  units = a .units;
+  cost = a .cost;
+  reward = a .reward;
+}
 
-abbrev pub accepted : ℤ → ℕ → ℕ → ℕ → ℕ → Contract.Answer
-accepted p q n s m = record { refusal = 0; p = p; q = q; n = n; s = s; m = m }
+abbrev pub accepted : ℤ → ℕ → ℕ → ℕ → ℕ → ℕ → ℤ → ℕ → Contract.Answer
+accepted p q n s m units cost reward =
+    record { refusal = 0; p = p; q = q; n = n; s = s; m = m; units = units; cost = cost; reward = reward }

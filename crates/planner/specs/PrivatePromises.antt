@@ -4,16 +4,20 @@ use mathlib.Core.List.{List}
 use Prim.Native.Nat.{ℕ, _≤_, _<_}
 use lib.IntN.{ℤ}
 use lib.ListN.{length, getD, take}
+use lib.Seq.{slice}
+use Rattle.automaton.specs.Times.{unitsOf}
 use Rattle.sheet.specs.Questions.{checkOf}
 use Rattle.sheet.specs.Decoded.{readOf}
 use Rattle.sheet.specs.declared.Sheet.{Sheet}
-use Rattle.walks.specs.Walk.{at}
+use Rattle.walks.specs.Walk.{at, atℤ}
+use Rattle.walks.specs.Weight.{sum, total}
 use Rattle.walks.specs.Form.{Graph}
 use Rattle.walks.specs.Cycles.{SimpleCycle}
 use Rattle.lasso.specs.Answer as Lasso
 use Rattle.ratio.specs.Answer.{RatioFound}
 use Rattle.contract.specs.Plan.{Answer, refusedPlan, Buffers, LongEnough, SameLengths, Passed, Judged, Planned, stepOn, startOf}
 use Rattle.contract.specs.Explored.{Found, Explored, Sorted}
+use Rattle.planner.specs.declared.sums.Sums.{Sums}
 
 -- ---- entries picked from a list
 
@@ -61,22 +65,39 @@ pub record OfSheet (F T C : List ℕ) (Z : List ℤ) (R order : List ℕ) (n : �
   pub sorted : Sorted (graphOf node F T C Z R n) order (lent .nodes)
 
 -- the first k entries of `cycle` are a simple cycle of a graph with a search tree
-pub record Cyclic (F T C order tree cycle : List ℕ) (n k : ℕ) : Type 0 where
+pub record Cyclic (F T C : List ℕ) (Z : List ℤ) (R order tree cycle : List ℕ) (n k : ℕ) : Type 0 where
   pub formed : Lasso.LassoArguments F T tree cycle n k 4096
   pub simple : SimpleCycle F T (length F) (take k cycle)
   pub sources : (e : ℕ) → e < length F → at F e < n
   pub codes : length C ≡ length F
+  pub costs : length Z ≡ length F
+  pub rewards : length R ≡ length F
   pub ordered : n ≤ length order
   pub order-below : (i : ℕ) → i < n → at order i < n
 
 -- the graph is that of a sheet, and p/q is the least ratio, with the potentials and the cycle that were found with it
-pub record Solved (F T C order : List ℕ) (D : List ℤ) (cycle : List ℕ) (n k : ℕ) (p : ℤ) (q : ℕ) (lent : Buffers) : Type 0 where
-  pub cost : List ℤ
-  pub reward : List ℕ
-  pub of-sheet : OfSheet F T C cost reward order n lent
+pub record Solved (F T C : List ℕ) (Z : List ℤ) (R order : List ℕ) (D : List ℤ) (cycle : List ℕ) (n k : ℕ) (p : ℤ) (q : ℕ) (lent : Buffers) : Type 0 where
+  pub of-sheet : OfSheet F T C Z R order n lent
   pub potential : List ℤ
   pub arcs : List ℕ
-  pub least : RatioFound F T cost reward n p q k potential D arcs cycle
+  pub least : RatioFound F T Z R n p q k potential D arcs cycle
+
+-- ---- the sums along the cycle
+
+-- the arcs from one place up to another are there, and few enough for their sums to fit
+pub record Summable (C : List ℕ) (Z : List ℤ) (R arcs : List ℕ) (from to : ℕ) : Type 0 where
+  pub order : from ≤ to
+  pub room : to ≤ length arcs
+  pub few : to ≤ 2048
+  pub codes : (i : ℕ) → i < to → at arcs i < length C
+  pub costs : (i : ℕ) → i < to → at arcs i < length Z
+  pub rewards : (i : ℕ) → i < to → at arcs i < length R
+
+-- their units, by the code of each, their cost and their reward
+pub record SumsOf (C : List ℕ) (Z : List ℤ) (R arcs : List ℕ) (from to : ℕ) (r : Sums) : Type 0 where
+  pub units : r .units ≡ total (λ e. unitsOf (at C e)) (slice from to arcs)
+  pub cost : r .cost ≡ sum (atℤ Z) (slice from to arcs)
+  pub reward : r .reward ≡ total (at R) (slice from to arcs)
 
 -- ---- what the plan comes to
 

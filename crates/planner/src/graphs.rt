@@ -7,11 +7,13 @@ ghost use Rattle.planner.specs.PrivatePromises.{Handed, OfSheet, Cyclic,
 use crate::Answer;
 use ratio::RatioAnswer;
 
-// The lasso of a cycle of the least ratio p / q, and the buffers. The first k entries of cycle are its arcs, least has the potentials.
+// The lasso of a cycle of the least ratio p / q, its sums and the buffers. The first k entries of cycle are its arcs, least has the potentials.
 fn accept(
     from: &[u16],
     to: &[u16],
     code: &[u16],
+    cost: &[i16],
+    reward: &[u16],
     order: &[u32],
     tree: &[usize],
     n: usize,
@@ -24,10 +26,10 @@ fn accept(
     potentials: &mut [i64],
     steps: &mut [u16],
 ) -> Answer
-    requires { ⌜ Cyclic (now from) (now to) (now code) (now order) (now tree) (now cycle) n k ⌝ ∗
+    requires { ⌜ Cyclic (now from) (now to) (now code) (now cost) (now reward) (now order) (now tree) (now cycle) n k ⌝ ∗
         ⌜ n ≤ length (now least) ⌝ ∗ ⌜ q ≤ 20480000 ⌝ ∗ ⌜ LongEnough (lentBuffers (now nodes) (now potentials) (now steps)) ⌝ }
-    ensures { λ r. ⌜ ((o : Solved (now (from .entry)) (now (to .entry)) (now (code .entry)) (now (order .entry)) (now (least .entry)) (now (cycle .entry)) n k p q
-        (lentBuffers (now (nodes .entry)) (now (potentials .entry)) (now (steps .entry))))
+    ensures { λ r. ⌜ ((o : Solved (now (from .entry)) (now (to .entry)) (now (code .entry)) (now (cost .entry)) (now (reward .entry)) (now (order .entry))
+        (now (least .entry)) (now (cycle .entry)) n k p q (lentBuffers (now (nodes .entry)) (now (potentials .entry)) (now (steps .entry))))
         → PlannedButForClearing (o .of-sheet .bytes) (o .of-sheet .before) (lentBuffers (now (nodes .exit)) (now (potentials .exit)) (now (steps .exit))) (answerOf r)) ⌝ }
 {
     let mut arcs = [0usize; 4096];
@@ -42,7 +44,8 @@ fn accept(
     buffers::clear_i64(potentials, n);
     crate::output::encode(code, &arcs, all, steps);
     buffers::clear_u16(steps, all);
-    crate::output::accepted(p, q, n, s, k)
+    let sums = crate::sums::sums_of(code, cost, reward, &arcs, s, all);
+    crate::output::accepted(p, q, n, s, k, sums)
 }
 
 pub(crate) fn plan_graph(
@@ -74,6 +77,8 @@ pub(crate) fn plan_graph(
             from,
             to,
             code,
+            cost,
+            reward,
             order,
             tree,
             n,

@@ -6,8 +6,10 @@ ghost use Rattle.planner.specs.PrivatePromises.{PlannedButForClearing};
 mod graphs;
 mod output;
 mod sheets;
+mod sums;
 
-// The refusal, the ratio p / q, n reachable nodes, and a lasso: a stem of s steps and a cycle of m.
+// The refusal, the ratio p / q, n reachable nodes, and a lasso: a stem of s steps and a cycle of m, with the units, the cost and the reward of
+// that cycle.
 pub struct Answer {
     pub refusal: u8,
     pub p: i64,
@@ -15,6 +17,9 @@ pub struct Answer {
     pub n: u16,
     pub s: u16,
     pub m: u16,
+    pub units: u16,
+    pub cost: i64,
+    pub reward: u32,
 }
 
 // The questions of a plan in their order. Where one of 12 to 14 is answered no, the buffers are still to be cleared.

@@ -7,6 +7,7 @@ ghost use Rattle.contract.specs.Plan as Contract;
 ghost use Rattle.planner.specs.ContractTerms.{answerOf, accepted};
 ghost use Rattle.planner.specs.PrivatePromises.{Picked, Pickable};
 use crate::Answer;
+use crate::sums::Sums;
 
 // All numbers besides the refusal are 0.
 pub(crate) fn refused(refusal: u8) -> Answer
@@ -19,13 +20,16 @@ pub(crate) fn refused(refusal: u8) -> Answer
         n: 0,
         s: 0,
         m: 0,
+        units: 0,
+        cost: 0,
+        reward: 0,
     }
 }
 
 // The numbers of an accepted sheet.
-pub(crate) fn accepted(p: i64, q: u64, n: usize, s: usize, m: usize) -> Answer
+pub(crate) fn accepted(p: i64, q: u64, n: usize, s: usize, m: usize, cycle: Sums) -> Answer
     requires { ⌜ q ≤ 20480000 ⌝ ∗ ⌜ n ≤ 2048 ⌝ ∗ ⌜ s + m ≤ 2048 ⌝ }
-    ensures { λ r. ⌜ answerOf r ≡ accepted p q n s m ⌝ }
+    ensures { λ r. ⌜ answerOf r ≡ accepted p q n s m (cycle .units) (cycle .cost) (cycle .reward) ⌝ }
 {
     Answer {
         refusal: 0,
@@ -34,6 +38,9 @@ pub(crate) fn accepted(p: i64, q: u64, n: usize, s: usize, m: usize) -> Answer
         n: n as u16,
         s: s as u16,
         m: m as u16,
+        units: cycle.units,
+        cost: cycle.cost,
+        reward: cycle.reward,
     }
 }
 

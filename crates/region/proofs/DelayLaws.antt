@@ -48,68 +48,68 @@ module _ (k : ℕ) (l : Location) (x : ℕ) where
   -- ---- one unit
 
   unit-by : (b : Bool) → not (someWhole u) && eqb (u .corner) (largestClass u) ≡ b
-      → answered (only b (record { to = number firstLayout (unitTo u); cost = l .cost; reward = l .reward })) ≡ answered (stepBy firstLayout A x 32)
+      → answered 32 (only b (record { to = number firstLayout (unitTo u); cost = l .cost; reward = l .reward })) ≡ answered 32 (stepBy firstLayout A x 32)
   unfolding stepBy step unitStep alone
-  unit-by true h = sym (ap (λ (b : Bool). answered (Option·map (named (number firstLayout)) (only b (record { to = unitTo u; cost = l .cost; reward = l .reward })))) h)
-  unit-by false h = sym (ap (λ (b : Bool). answered (Option·map (named (number firstLayout)) (only b (record { to = unitTo u; cost = l .cost; reward = l .reward })))) h)
+  unit-by true h = sym (ap (λ (b : Bool). answered 32 (Option·map (named (number firstLayout)) (only b (record { to = unitTo u; cost = l .cost; reward = l .reward })))) h)
+  unit-by false h = sym (ap (λ (b : Bool). answered 32 (Option·map (named (number firstLayout)) (only b (record { to = unitTo u; cost = l .cost; reward = l .reward })))) h)
 
-  unit-whole : occurs 0 (take (fewClocks k) (inArrays u .region .class)) ≡ true → refusedStep 16 ≡ answered (stepBy firstLayout A x 32)
+  unit-whole : occurs 0 (take (fewClocks k) (inArrays u .region .class)) ≡ true → refusedStep 16 ≡ answered 32 (stepBy firstLayout A x 32)
   unit-whole h = unit-by false (ap (λ (b : Bool). not b && eqb (u .corner) (largestClass u)) (sym same-whole ∙ h))
 
-  unit-early : (u .corner ≡ largest (inArrays u .region .class) → ⊥) → refusedStep 16 ≡ answered (stepBy firstLayout A x 32)
+  unit-early : (u .corner ≡ largest (inArrays u .region .class) → ⊥) → refusedStep 16 ≡ answered 32 (stepBy firstLayout A x 32)
   unit-early n = unit-by false (ap (λ (b : Bool). not (someWhole u) && b) (ne-eqb (u .corner) (largestClass u) (λ q. n (q ∙ sym same-largest)))
       ∙ no-more (not (someWhole u)))
 
   unit-taken : occurs 0 (take (fewClocks k) (inArrays u .region .class)) ≡ false → u .corner ≡ largest (inArrays u .region .class)
-      → _≡_ {A = Stepped} (record { refusal = 0; number = number firstLayout (fromArrays (inArrays (unitTo u))); cost = l .cost; reward = l .reward })
-      (answered (stepBy firstLayout A x 32))
-  unit-taken h q = ap (λ (n : ℕ). record { refusal = 0; number = n; cost = l .cost; reward = l .reward })
+      → _≡_ {A = Stepped} (record { refusal = 0; number = number firstLayout (fromArrays (inArrays (unitTo u))); cost = l .cost; reward = l .reward; units = 1 })
+      (answered 32 (stepBy firstLayout A x 32))
+  unit-taken h q = ap (λ (n : ℕ). record { refusal = 0; number = n; cost = l .cost; reward = l .reward; units = 1 })
       (same-number (fewClocks k) (few-le k) (unitTo u) (record { wholes = sized (fewClocks k) x .wholes; classes = sized (fewClocks k) x .classes }))
       ∙ unit-by true (ap₂ (λ (b c : Bool). not b && c) (sym same-whole ∙ h) (eq-eqb (u .corner) (largestClass u) (q ∙ same-largest)))
 
   -- ---- a region move
 
   move-by : (b : Bool) → someWhole u ≡ b
-      → answered (Option·map (named (number firstLayout)) (cond b (only (inside A (riseTo u)) (free (riseTo u)))
-      (only (ltb (u .corner) (largestClass u) && inside A (carryTo u)) (free (carryTo u))))) ≡ answered (stepBy firstLayout A x 33)
+      → answered 33 (Option·map (named (number firstLayout)) (cond b (only (inside A (riseTo u)) (free (riseTo u)))
+      (only (ltb (u .corner) (largestClass u) && inside A (carryTo u)) (free (carryTo u))))) ≡ answered 33 (stepBy firstLayout A x 33)
   unfolding stepBy step moveStep alone
-  move-by b h = sym (ap (λ (b : Bool). answered (Option·map (named (number firstLayout)) (cond b (only (inside A (riseTo u)) (free (riseTo u)))
+  move-by b h = sym (ap (λ (b : Bool). answered 33 (Option·map (named (number firstLayout)) (cond b (only (inside A (riseTo u)) (free (riseTo u)))
       (only (ltb (u .corner) (largestClass u) && inside A (carryTo u)) (free (carryTo u)))))) h)
 
   -- a free step to v, told by its arrays
   landed : (v : automaton.Node) (n : Node) → Sized (fewClocks k) v → n ≡ inArrays v
-      → answered (only (boundsIn (l .upper) (fewClocks k) (n .region)) (free (number firstLayout (fromArrays n))))
-      ≡ answered (Option·map (named (number firstLayout)) (only (inside A v) (free v)))
-  landed v n h q = ap (λ (n : Node). answered (only (boundsIn (l .upper) (fewClocks k) (n .region)) (free (number firstLayout (fromArrays n))))) q
-      ∙ ap₂ (λ (b : Bool) (m : ℕ). answered (only b (free m))) (same-inside k blankEdge l v h) (same-number (fewClocks k) (few-le k) v h)
+      → answered 33 (only (boundsIn (l .upper) (fewClocks k) (n .region)) (free (number firstLayout (fromArrays n))))
+      ≡ answered 33 (Option·map (named (number firstLayout)) (only (inside A v) (free v)))
+  landed v n h q = ap (λ (n : Node). answered 33 (only (boundsIn (l .upper) (fewClocks k) (n .region)) (free (number firstLayout (fromArrays n))))) q
+      ∙ ap₂ (λ (b : Bool) (m : ℕ). answered 33 (only b (free m))) (same-inside k blankEdge l v h) (same-number (fewClocks k) (few-le k) v h)
       ∙ go (inside A v)
     where
-      go : (b : Bool) → answered (only b (free (number firstLayout v))) ≡ answered (Option·map (named (number firstLayout)) (only b (free v)))
+      go : (b : Bool) → answered 33 (only b (free (number firstLayout v))) ≡ answered 33 (Option·map (named (number firstLayout)) (only b (free v)))
       go true = refl
       go false = refl
 
   move-rises : occurs 0 (take (fewClocks k) (inArrays u .region .class)) ≡ true
-      → answered (only (boundsIn (l .upper) (fewClocks k) (afterRise (fewClocks k) (inArrays u) .region)) (free (number firstLayout (fromArrays (afterRise (fewClocks k) (inArrays u))))))
-      ≡ answered (stepBy firstLayout A x 33)
+      → answered 33 (only (boundsIn (l .upper) (fewClocks k) (afterRise (fewClocks k) (inArrays u) .region)) (free (number firstLayout (fromArrays (afterRise (fewClocks k) (inArrays u))))))
+      ≡ answered 33 (stepBy firstLayout A x 33)
   move-rises h = let s = sized (fewClocks k) x in
       landed (riseTo u) (afterRise (fewClocks k) (inArrays u)) (rise-sized (fewClocks k) (few-le k) u s) (rise-arrays (fewClocks k) (few-le k) u s)
       ∙ move-by true (sym same-whole ∙ h)
 
   move-carries : (g : ℕ) → g ≡ largest (inArrays u .region .class) → occurs 0 (take (fewClocks k) (inArrays u .region .class)) ≡ false → u .corner < g
-      → answered (only (boundsIn (l .upper) (fewClocks k) (afterCarry g (inArrays u) .region)) (free (number firstLayout (fromArrays (afterCarry g (inArrays u))))))
-      ≡ answered (stepBy firstLayout A x 33)
+      → answered 33 (only (boundsIn (l .upper) (fewClocks k) (afterCarry g (inArrays u) .region)) (free (number firstLayout (fromArrays (afterCarry g (inArrays u))))))
+      ≡ answered 33 (stepBy firstLayout A x 33)
   move-carries g q h c = let s = sized (fewClocks k) x in
-      ap (λ (g : ℕ). answered (only (boundsIn (l .upper) (fewClocks k) (afterCarry g (inArrays u) .region)) (free (number firstLayout (fromArrays (afterCarry g (inArrays u)))))))
+      ap (λ (g : ℕ). answered 33 (only (boundsIn (l .upper) (fewClocks k) (afterCarry g (inArrays u) .region)) (free (number firstLayout (fromArrays (afterCarry g (inArrays u)))))))
       (q ∙ same-largest)
       ∙ landed (carryTo u) (afterCarry (largestClass u) (inArrays u)) (carry-sized (fewClocks k) (few-le k) u s (largestClass u))
       (carry-arrays (fewClocks k) (few-le k) u s (largestClass u) (omega (arith, q, same-largest)))
-      ∙ ap (λ (b : Bool). answered (Option·map (named (number firstLayout)) (only (b && inside A (carryTo u)) (free (carryTo u)))))
+      ∙ ap (λ (b : Bool). answered 33 (Option·map (named (number firstLayout)) (only (b && inside A (carryTo u)) (free (carryTo u)))))
       (sym (lt-ltb (u .corner) (largestClass u) (omega (arith, q, same-largest))))
       ∙ move-by false (sym same-whole ∙ h)
 
   move-none : occurs 0 (take (fewClocks k) (inArrays u .region .class)) ≡ false → largest (inArrays u .region .class) ≤ u .corner
-      → refusedStep 16 ≡ answered (stepBy firstLayout A x 33)
-  move-none h c = ap (λ (b : Bool). answered (Option·map (named (number firstLayout)) (only (b && inside A (carryTo u)) (free (carryTo u)))))
+      → refusedStep 16 ≡ answered 33 (stepBy firstLayout A x 33)
+  move-none h c = ap (λ (b : Bool). answered 33 (Option·map (named (number firstLayout)) (only (b && inside A (carryTo u)) (free (carryTo u)))))
       (sym (le-ltb (u .corner) (largestClass u) (omega (arith, same-largest))))
       ∙ move-by false (sym same-whole ∙ h)
 
@@ -128,42 +128,43 @@ module _ (k : ℕ) (l : Location) (x kk : ℕ) (n : Node) (few : kk ≡ fewClock
   top : largest (n .region .class) ≡ largest (inArrays (nodeOf firstLayout (fewClocks k) x) .region .class)
   top = ap (λ (m : Node). largest (m .region .class)) node
 
-  pub some-whole : occurs 0 (take kk (n .region .class)) ≡ true → refusedStep 16 ≡ answered (stepBy firstLayout (alone k blankEdge l) x 32)
+  pub some-whole : occurs 0 (take kk (n .region .class)) ≡ true → refusedStep 16 ≡ answered 32 (stepBy firstLayout (alone k blankEdge l) x 32)
   some-whole h = unit-whole k l x (whole h)
 
-  pub early : (n .corner ≡ largest (n .region .class) → ⊥) → refusedStep 16 ≡ answered (stepBy firstLayout (alone k blankEdge l) x 32)
+  pub early : (n .corner ≡ largest (n .region .class) → ⊥) → refusedStep 16 ≡ answered 32 (stepBy firstLayout (alone k blankEdge l) x 32)
   early d = unit-early k l x (λ q. d (corner ∙ q ∙ sym top))
 
   pub turned : (c : ℤ) → c ≡ l .cost → occurs 0 (take kk (n .region .class)) ≡ false → n .corner ≡ largest (n .region .class)
       → (z : ℕ) → z ≡ number firstLayout (fromArrays (record { location = n .location; region = n .region; corner = 0 }))
-      → _≡_ {A = Stepped} (record { refusal = 0; number = z; cost = c; reward = l .reward }) (answered (stepBy firstLayout (alone k blankEdge l) x 32))
+      → _≡_ {A = Stepped} (record { refusal = 0; number = z; cost = c; reward = l .reward; units = 1 }) (answered 32 (stepBy firstLayout (alone k blankEdge l) x 32))
   turned c p h q z e = (λ i. record {
     refusal = 0;
     number = (e ∙ ap (λ (m : Node). number firstLayout (fromArrays (record { location = m .location; region = m .region; corner = 0 }))) node) i;
     cost = p i;
     reward = l .reward;
+    units = 1;
   })
       ∙ unit-taken k l x (whole h) (sym corner ∙ q ∙ top)
 
   pub risen : (v : Node) → v ≡ afterRise kk n → occurs 0 (take kk (n .region .class)) ≡ true
-      → (z : Stepped) → z ≡ answered (only (boundsIn (l .upper) kk (v .region)) (free (number firstLayout (fromArrays v))))
-      → z ≡ answered (stepBy firstLayout (alone k blankEdge l) x 33)
-  risen v q h z e = e ∙ ap₂ (λ (m : ℕ) (w : Node). answered (only (boundsIn (l .upper) m (w .region)) (free (number firstLayout (fromArrays w))))) few
+      → (z : Stepped) → z ≡ answered 33 (only (boundsIn (l .upper) kk (v .region)) (free (number firstLayout (fromArrays v))))
+      → z ≡ answered 33 (stepBy firstLayout (alone k blankEdge l) x 33)
+  risen v q h z e = e ∙ ap₂ (λ (m : ℕ) (w : Node). answered 33 (only (boundsIn (l .upper) m (w .region)) (free (number firstLayout (fromArrays w))))) few
       (q ∙ ap₂ afterRise few node) ∙ move-rises k l x (whole h)
 
   pub carried : (g : ℕ) → g ≡ largest (n .region .class) → (v : Node) → v ≡ afterCarry g n → occurs 0 (take kk (n .region .class)) ≡ false → n .corner < g
-      → (z : Stepped) → z ≡ answered (only (boundsIn (l .upper) kk (v .region)) (free (number firstLayout (fromArrays v))))
-      → z ≡ answered (stepBy firstLayout (alone k blankEdge l) x 33)
-  carried g r v q h c z e = e ∙ ap₂ (λ (m : ℕ) (w : Node). answered (only (boundsIn (l .upper) m (w .region)) (free (number firstLayout (fromArrays w))))) few
+      → (z : Stepped) → z ≡ answered 33 (only (boundsIn (l .upper) kk (v .region)) (free (number firstLayout (fromArrays v))))
+      → z ≡ answered 33 (stepBy firstLayout (alone k blankEdge l) x 33)
+  carried g r v q h c z e = e ∙ ap₂ (λ (m : ℕ) (w : Node). answered 33 (only (boundsIn (l .upper) m (w .region)) (free (number firstLayout (fromArrays w))))) few
       (q ∙ ap (afterCarry g) node) ∙ move-carries k l x g (r ∙ top) (whole h) (omega (arith, corner))
 
   pub stays : (g : ℕ) → g ≡ largest (n .region .class) → occurs 0 (take kk (n .region .class)) ≡ false → g ≤ n .corner
-      → refusedStep 16 ≡ answered (stepBy firstLayout (alone k blankEdge l) x 33)
+      → refusedStep 16 ≡ answered 33 (stepBy firstLayout (alone k blankEdge l) x 33)
   stays g r h c = move-none k l x (whole h) (omega (arith, corner, top, r))
 
 -- a free step to a node that lies within the bounds, or does not
-pub free-yes : (b : Bool) (z m : ℕ) → b ≡ true → z ≡ m → _≡_ {A = Stepped} (record { refusal = 0; number = z; cost = pos 0; reward = 0 }) (answered (only b (free m)))
-free-yes b z m h q = (λ i. record { refusal = 0; number = q i; cost = pos 0; reward = 0 }) ∙ sym (ap (λ (t : Bool). answered (only t (free m))) h)
+pub free-yes : (b : Bool) (z m : ℕ) → b ≡ true → z ≡ m → _≡_ {A = Stepped} (record { refusal = 0; number = z; cost = pos 0; reward = 0; units = 0 }) (answered 33 (only b (free m)))
+free-yes b z m h q = (λ i. record { refusal = 0; number = q i; cost = pos 0; reward = 0; units = 0 }) ∙ sym (ap (λ (t : Bool). answered 33 (only t (free m))) h)
 
-pub free-no : (b : Bool) (m : ℕ) → b ≡ false → refusedStep 16 ≡ answered (only b (free m))
-free-no b m h = sym (ap (λ (t : Bool). answered (only t (free m))) h)
+pub free-no : (b : Bool) (m : ℕ) → b ≡ false → refusedStep 16 ≡ answered 33 (only b (free m))
+free-no b m h = sym (ap (λ (t : Bool). answered 33 (only t (free m))) h)

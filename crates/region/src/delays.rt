@@ -18,7 +18,7 @@ use sheet::Location;
 // Question 16 of one unit of delay. Takes for granted that the number is that of a node of the sheet (question 15 is not asked), that the sheet has
 // so many clocks, and that `location` is the record of the node's location.
 pub fn unit_step(number: u32, clocks: u8, location: Location) -> Stepped
-    ensures { λ r. ⌜ r ≡ answered (stepBy firstLayout (alone clocks blankEdge location) number 32) ⌝ }
+    ensures { λ r. ⌜ r ≡ answered 32 (stepBy firstLayout (alone clocks blankEdge location) number 32) ⌝ }
 {
     let k = crate::few(clocks);
     let node = crate::numbers::unpack(number, k);
@@ -40,6 +40,7 @@ pub fn unit_step(number: u32, clocks: u8, location: Location) -> Stepped
         number: crate::numbers::pack(next),
         cost: location.cost,
         reward: location.reward,
+        units: 1,
     }
 }
 
@@ -111,7 +112,7 @@ fn after_carry(node: Node, g: u8) -> Node
 // A free step to a node, which must lie within the upper bytes.
 fn land(node: Node, upper: [u8; 3], clocks: usize) -> Stepped
     requires { ⌜ clocks ≤ 3 ⌝ }
-    ensures { λ r. ⌜ r ≡ answered (only (boundsIn upper clocks (node .region)) (free (number firstLayout (fromArrays node)))) ⌝ }
+    ensures { λ r. ⌜ r ≡ answered 33 (only (boundsIn upper clocks (node .region)) (free (number firstLayout (fromArrays node)))) ⌝ }
 {
     if !crate::bounds::inside(node.region, upper, clocks) {
         return crate::not_allowed();
@@ -121,12 +122,13 @@ fn land(node: Node, upper: [u8; 3], clocks: usize) -> Stepped
         number: crate::numbers::pack(node),
         cost: 0,
         reward: 0,
+        units: 0,
     }
 }
 
 // Question 16 of a region move. Takes for granted what `unit_step` does.
 pub fn move_step(number: u32, clocks: u8, location: Location) -> Stepped
-    ensures { λ r. ⌜ r ≡ answered (stepBy firstLayout (alone clocks blankEdge location) number 33) ⌝ }
+    ensures { λ r. ⌜ r ≡ answered 33 (stepBy firstLayout (alone clocks blankEdge location) number 33) ⌝ }
 {
     let k = crate::few(clocks);
     let node = crate::numbers::unpack(number, k);

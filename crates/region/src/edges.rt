@@ -65,7 +65,7 @@ fn after_edge(node: Node, target: u8, reset: u8) -> Node
 // not asked), that the sheet has the edge and so many clocks, and that `target` is the record of the location that the edge leads to. An edge that
 // starts elsewhere is refused first: most do.
 pub fn edge_step(number: u32, clocks: u8, edge: Edge, target: Location) -> Stepped
-    ensures { λ r. ⌜ r ≡ answered (stepBy firstLayout (alone clocks edge target) number 0) ⌝ }
+    ensures { λ r. ⌜ r ≡ answered 0 (stepBy firstLayout (alone clocks edge target) number 0) ⌝ }
 {
     if edge.source != crate::location_in(number) {
         return crate::not_allowed();
@@ -87,5 +87,6 @@ pub fn edge_step(number: u32, clocks: u8, edge: Edge, target: Location) -> Stepp
         number: crate::numbers::pack(next),
         cost: edge.cost,
         reward: edge.reward,
+        units: 0,
     }
 }

@@ -23,12 +23,13 @@ pub struct Node {
     pub corner: u8,
 }
 
-// The answer of a step: 0, or the number of the question answered no, and then nothing else.
+// The answer of a step: 0, or the number of the question answered no, and then nothing else. The units are those that elapse.
 pub struct Stepped {
     pub refusal: u8,
     pub number: u32,
     pub cost: i16,
     pub reward: u16,
+    pub units: u16,
 }
 
 // Question 16 answered no.
@@ -40,6 +41,7 @@ pub fn not_allowed() -> Stepped
         number: 0,
         cost: 0,
         reward: 0,
+        units: 0,
     }
 }
 

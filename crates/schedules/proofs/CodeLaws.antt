@@ -5,7 +5,8 @@ use mathlib.Core.List.{List, [], _∷_, _++_}
 use Prim.Native.Nat.{ℕ, _+_, _≤_, _<_}
 use borrow.Author.Tests.{le-leb, lt-leb}
 use Rattle.automaton.specs.Runs.{delay, edge}
-use Rattle.schedules.specs.Pairs.{Pair, members, unitsOf, pairsFrom}
+use Rattle.automaton.specs.Times.{unitsOf}
+use Rattle.schedules.specs.Pairs.{Pair, members, pairsFrom}
 use Rattle.schedules.specs.WalkTerms.{restFrom, membersFrom}
 
 pub pairs-none : (w : ℕ) → pairsFrom w [] ≡ []

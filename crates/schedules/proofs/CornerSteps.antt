@@ -2,7 +2,7 @@
 use mathlib.Core.Path.{_≡_, refl, sym, ap, _∙_, subst}
 use mathlib.Core.Bool.{true, _&&_}
 use mathlib.Core.Option.{some}
-use Prim.Native.Nat.{ℕ, suc, _+_, _*_, _≤_, _<_}
+use Prim.Native.Nat.{ℕ, _*_, _≤_, _<_}
 use native.Mathlib.Nat.{one-mul, zero-mul}
 use native.Mathlib.Omega.{arith}
 use borrow.Author.Tests.{ltb-true}
@@ -12,19 +12,18 @@ use Rattle.integers.proofs.Products.{times-suc}
 use Rattle.automaton.specs.Bounds.{upperHolds, lowerHolds}
 use Rattle.automaton.specs.Automaton.{Automaton, inGuards}
 use Rattle.automaton.specs.Priced.{Priced, free}
-use Rattle.automaton.specs.Nodes.{Node, intervals, inside, point, isNode, Sound}
+use Rattle.automaton.specs.Nodes.{Node, intervals, inside, isNode, Sound}
 use Rattle.automaton.specs.Steps.{edgeTo, edgeAllowed, unitTo, riseTo, carryTo, step}
 use Rattle.automaton.specs.Runs.{State, delay, edge, withinBounds, later, after, takes}
+use Rattle.automaton.specs.Times.{unitsOf}
 use Rattle.automaton.proofs.Tests.{&&-left, &&-right, &&-intro, only-yes}
-use Rattle.automaton.proofs.Lists.{each-all, map-cong}
 use Rattle.automaton.proofs.Codes.{step-edge, step-unit, step-move, step-cases, edge-needs, unit-needs, move-cases}
 use Rattle.automaton.proofs.Reached.{step-to-node}
-use Rattle.automaton.proofs.Corners.{edge-moves-point, unit-moves-point, move-keeps-point}
+use Rattle.automaton.proofs.Corners.{edge-moves-point}
+use Rattle.automaton.proofs.Times.{delay-units}
 use Rattle.schedules.specs.Closed.{isClosed}
-use Rattle.schedules.specs.Pairs.{unitsOf}
 use Rattle.schedules.specs.WalkTerms.{cornerState}
 use Rattle.schedules.proofs.CornerBounds.{corner-within, corner-guards}
-use Rattle.schedules.proofs.RunLaws.{later-zero}
 
 one-times : (z : ℤ) → pos 1 *ℤ z ≡ z
 one-times z = times-suc 0 z ∙ ap (λ (y : ℤ). y +ℤ z) (zero-*ℤ z) ∙ +ℤ-idl z
@@ -40,7 +39,7 @@ module _ (A : Automaton) (u : Node) (x : Priced Node) where
   unit-delays : step A u 32 ≡ some x → Delays A u 1 x
   unit-delays s = record {
     here = here;
-    grown = λ i. record { location = here i; values = (map-cong (λ v. v + 1) suc (point u) (each-all (λ v. omega arith)) ∙ sym (unit-moves-point A u x s)) i };
+    grown = λ i. record { location = here i; values = sym (delay-units A u 32 x (omega arith) s) i };
     cost = one-times (A .costRate (u .location)) ∙ ap (λ (y : Priced Node). y .cost) (sym is);
     reward = one-mul (A .rewardRate (u .location)) ∙ ap (λ (y : Priced Node). y .reward) (sym is);
   }
@@ -57,7 +56,7 @@ module _ (A : Automaton) (u : Node) (x : Priced Node) where
       told : (v : Node) → u .location ≡ v .location → x ≡ free v → Delays A u 0 x
       told v l q = record {
         here = here;
-        grown = later-zero (cornerState u) ∙ (λ i. record { location = here i; values = sym (move-keeps-point A u x s) i });
+        grown = λ i. record { location = here i; values = sym (delay-units A u 33 x (omega arith) s) i };
         cost = zero-*ℤ (A .costRate (u .location)) ∙ ap (λ (y : Priced Node). y .cost) (sym q);
         reward = zero-mul (A .rewardRate (u .location)) ∙ ap (λ (y : Priced Node). y .reward) (sym q);
       }

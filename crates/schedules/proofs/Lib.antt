@@ -14,3 +14,4 @@ pub mod PlanLoops
 pub mod Computes
 pub mod NumberPlans
 pub mod PlanSizes
+pub mod PlanTimes

@@ -7,12 +7,13 @@ use native.Mathlib.Omega.{arith}
 use borrow.Author.Tests.{leb-true, leb-false}
 use lib.Dec.{eqb}
 use lib.ListN.{length}
+use Rattle.automaton.specs.Times.{unitsOf}
 use Rattle.automaton.proofs.Tests.{by-bool}
-use Rattle.schedules.specs.Pairs.{Pair, isEdge, unitsOf, pairsFrom, pairsOf}
+use Rattle.schedules.specs.Pairs.{Pair, isEdge, pairsFrom, pairsOf}
 use Rattle.schedules.specs.WalkTerms.{restFrom, restOf}
 use Rattle.schedules.proofs.CodeLaws.{pairs-none, pairs-edge, pairs-delay, rest-none, rest-edge, rest-delay}
 
-by-kind {ℓ} : {X : Type ℓ} (code : ℕ) → (code ≤ 31 → X) → (31 < code → X) → X
+pub by-kind {ℓ} : {X : Type ℓ} (code : ℕ) → (code ≤ 31 → X) → (31 < code → X) → X
 by-kind code f g = by-bool (isEdge code) (λ e. f (leb-true code 31 e)) (λ e. g (leb-false code 31 e))
 
 -- ---- one list after another

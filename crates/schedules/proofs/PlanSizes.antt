@@ -7,7 +7,8 @@ use native.Mathlib.Omega.{arith}
 use lib.IntN.{ℤ}
 use lib.ListN.{length, length-append}
 use Rattle.automaton.specs.Automaton.{Automaton}
-use Rattle.schedules.specs.Pairs.{Pair, isEdge, unitsOf, pairsFrom, pairsOf}
+use Rattle.automaton.specs.Times.{unitsOf}
+use Rattle.schedules.specs.Pairs.{Pair, isEdge, pairsFrom, pairsOf}
 use Rattle.schedules.specs.Turning.{untilEdge, pastEdge, stemPairs, cyclePairs}
 use Rattle.schedules.specs.WorkPlan.{EndsWith, WorkPlan}
 use Rattle.schedules.specs.WalkTerms.{restOf}

@@ -9,8 +9,8 @@ use Rattle.automaton.specs.Automaton.{Automaton}
 use Rattle.automaton.specs.Priced.{Priced, free, joined, andThen, chain}
 use Rattle.automaton.specs.Runs.{State, Member, delay, withinBounds, later, takes, run}
 use Rattle.automaton.proofs.Tests.{only-value}
-use Rattle.automaton.proofs.Lists.{each-all, map-same}
 use Rattle.automaton.proofs.Chains.{some-inj, Split, then-split, chain-append, chain-one}
+use Rattle.automaton.proofs.Times.{later-zero}
 use Rattle.schedules.specs.WholeRuns.{WholeRun}
 
 -- the same run, told otherwise
@@ -30,9 +30,6 @@ runs-then {A} {s} {t} {x} {ms} {ns} {c} {d} {r} {q} a b = record {
   is-run = chain-append (takes A 1) s ms ns ∙ ap (λ (o : Option (Priced State)). andThen o (λ y. run A 1 y ns)) (a .is-run)
       ∙ ap (λ (o : Option (Priced State)). andThen (some (record { to = t; cost = c; reward = r })) (λ y. o)) (b .is-run);
 }
-
-pub later-zero : (s : State) → later 0 s ≡ s
-later-zero s = λ i. record { location = s .location; values = map-same (λ v. v + 0) (s .values) (each-all add-zero) i }
 
 -- a delay of 0 leaves all as it is
 stays : (A : Automaton) (s : State) (x : Priced State) → run A 1 s (delay 0 ∷ []) ≡ some x → free s ≡ x

@@ -1,11 +1,10 @@
 -- A walk of step codes, read at the corners, is a run with n = 1 of the members of its codes, and costs and earns the same.
 use mathlib.Core.Path.{_≡_, refl, sym, ap, ap₂, _∙_, subst}
 use mathlib.Core.Bool.{true}
-use mathlib.Core.List.{List, [], _∷_, map, map-map}
+use mathlib.Core.List.{List, [], _∷_}
 use mathlib.Core.Option.{some}
 use Prim.Native.Nat.{ℕ, _+_, _*_}
 use native.Mathlib.Nat.{zero-add, add-zero, zero-mul, add-mul, add-assoc}
-use native.Mathlib.Omega.{arith}
 use lib.IntN.{ℤ, pos, _+ℤ_, _*ℤ_, +ℤ-idl, +ℤ-idr, +ℤ-assoc, zero-*ℤ, *ℤ-comm}
 use Rattle.integers.proofs.Products.{mul-sum}
 use Rattle.automaton.specs.Automaton.{Automaton}
@@ -14,23 +13,16 @@ use Rattle.automaton.specs.Nodes.{Node, isNode, Sound}
 use Rattle.automaton.specs.Steps.{step}
 use Rattle.automaton.specs.Walks.{Walk}
 use Rattle.automaton.specs.Runs.{State, later}
-use Rattle.automaton.proofs.Lists.{each-all, map-cong}
+use Rattle.automaton.specs.Times.{unitsOf}
 use Rattle.automaton.proofs.Chains.{some-inj, Split, then-split}
 use Rattle.automaton.proofs.Reached.{step-to-node}
+use Rattle.automaton.proofs.Times.{later-zero, later-more}
 use Rattle.schedules.specs.Closed.{isClosed}
-use Rattle.schedules.specs.Pairs.{unitsOf}
 use Rattle.schedules.specs.WholeRuns.{WholeRun}
 use Rattle.schedules.specs.WalkTerms.{membersFrom, membersOf, cornerState}
-use Rattle.schedules.proofs.RunLaws.{runs-as, runs-one, runs-then, later-zero}
+use Rattle.schedules.proofs.RunLaws.{runs-as, runs-one, runs-then}
 use Rattle.schedules.proofs.CornerSteps.{Delays, step-kinds, edge-taken, delay-taken}
 use Rattle.schedules.proofs.CodeLaws.{members-edge, members-delay, members-none}
-
--- delays add up
-later-more : (w d : ℕ) (s : State) → later (w + d) s ≡ later d (later w s)
-later-more w d s = λ i. record { location = s .location; values = values i }
-  where
-    values : map (λ v. v + (w + d)) (s .values) ≡ map (λ v. v + d) (map (λ v. v + w) (s .values))
-    values = map-cong (λ v. v + (w + d)) (λ v. v + w + d) (s .values) (each-all (λ v. omega arith)) ∙ sym (map-map (λ v. v + d) (λ v. v + w) (s .values))
 
 longer : (w d : ℕ) (rate : ℤ) → pos (w + d) *ℤ rate ≡ pos w *ℤ rate +ℤ pos d *ℤ rate
 longer w d rate = *ℤ-comm (pos (w + d)) rate ∙ mul-sum rate (pos w) (pos d) ∙ ap₂ _+ℤ_ (*ℤ-comm rate (pos w)) (*ℤ-comm rate (pos d))

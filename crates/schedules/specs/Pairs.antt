@@ -2,8 +2,9 @@
 use mathlib.Core.Bool.{Bool, cond}
 use mathlib.Core.List.{List, [], _∷_, map}
 use Prim.Native.Nat.{ℕ, _+_}
-use lib.Dec.{leb, eqb}
+use lib.Dec.{leb}
 use Rattle.automaton.specs.Runs.{Member, delay, edge}
+use Rattle.automaton.specs.Times.{unitsOf}
 
 pub record Pair : Type 0 where
   pub wait : ℕ
@@ -24,9 +25,6 @@ members (p ∷ ps) = delay (p .wait) ∷ edge (p .edge) ∷ members ps
 -- "Codes 0 to 31 are edges, 32 is one unit of delay, 33 is a region move."
 abbrev pub isEdge : ℕ → Bool
 isEdge code = leb code 31
-
-abbrev pub unitsOf : ℕ → ℕ
-unitsOf code = cond (eqb code 32) 1 0
 
 -- The pairs of a list of step codes, with w units of the first wait behind: units add up, region moves take no time, and an edge ends a pair.
 unfoldable pub pairsFrom : ℕ → List ℕ → List Pair

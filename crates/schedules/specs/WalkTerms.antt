@@ -4,7 +4,8 @@ use mathlib.Core.List.{List, [], _∷_, _++_}
 use Prim.Native.Nat.{ℕ, _+_}
 use Rattle.automaton.specs.Nodes.{Node, point}
 use Rattle.automaton.specs.Runs.{State, Member, delay}
-use Rattle.schedules.specs.Pairs.{isEdge, unitsOf, members, pairsFrom}
+use Rattle.automaton.specs.Times.{unitsOf}
+use Rattle.schedules.specs.Pairs.{isEdge, members, pairsFrom}
 
 -- a node as a state with n = 1: its clocks stand at the corner point
 abbrev pub cornerState : Node → State

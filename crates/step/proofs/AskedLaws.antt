@@ -21,9 +21,10 @@ use Rattle.region.specs.declared.Stepped.{Stepped}
 use Rattle.step.specs.Step.{answerAt, stepOf, asked}
 
 -- what an answer says is the step that it tells
-told : (o : Option (Priced ℕ)) → only (eqb (answered o .refusal) 0) (record { to = answered o .number; cost = answered o .cost; reward = answered o .reward }) ≡ o
-told none = refl
-told (some v) = refl
+told : (code : ℕ) (o : Option (Priced ℕ))
+    → only (eqb (answered code o .refusal) 0) (record { to = answered code o .number; cost = answered code o .cost; reward = answered code o .reward }) ≡ o
+told code none = refl
+told code (some v) = refl
 
 named-same : (o : Option (Priced ℕ)) → o ≡ Option·map (named (λ (x : ℕ). x)) o
 named-same none = refl
@@ -40,10 +41,10 @@ module _ (s : List ℕ) (ok : checkOf s ≡ 0) where
   start = startNumber (layoutOf s) (meaning s)
 
   -- at a node's number the answer is the step that walks are made of
-  step-is : (x code : ℕ) → P x → stepOf s x code ≡ answered (step x code)
+  step-is : (x code : ℕ) → P x → stepOf s x code ≡ answered code (step x code)
   unfolding stepOf answerAt
   step-is x code h = ap (λ (b : Bool). cond b (answerAt (layoutOf s) (meaning s) x code) (refusedStep (checkOf s))) (eq-eqb (checkOf s) 0 ok)
-      ∙ ap (λ (b : Bool). cond b (answered (step x code)) (refusedStep 15)) h
+      ∙ ap (λ (b : Bool). cond b (answered code (step x code)) (refusedStep 15)) h
 
   keeps : (x code : ℕ) (v : Priced ℕ) → step x code ≡ some v → P x → P (v .to)
   keeps = step-to-number (layoutOf s) (meaning s) (room s ok) (sound s ok)
@@ -51,7 +52,7 @@ module _ (s : List ℕ) (ok : checkOf s ≡ 0) where
   same : (x code : ℕ) → P x → asked s x code ≡ Option·map (named (λ (x : ℕ). x)) (step x code)
   same x code h =
       ap (λ (a : Stepped). only (eqb (a .refusal) 0) (record { to = a .number; cost = a .cost; reward = a .reward })) (step-is x code h)
-      ∙ told (step x code) ∙ named-same (step x code)
+      ∙ told code (step x code) ∙ named-same (step x code)
 
   module _ {x : ℕ} (reached : Reachable step start x) where
     holds : P x

@@ -1,3 +1,4 @@
 pub mod SheetLaws
 pub mod AskedLaws
+pub mod UnitLaws
 pub mod StepNumberLaws

@@ -1,12 +1,15 @@
 -- Questions 15 and 16 of a decoded sheet by its records; and what was read steps as its bytes do.
-use mathlib.Core.Path.{_≡_, sym, ap, ap₂, _∙_}
+use mathlib.Core.Path.{_≡_, refl, sym, ap, ap₂, _∙_}
 use mathlib.Core.Bool.{Bool, true, false, cond, _&&_}
 use mathlib.Core.List.{List}
+use mathlib.Core.Option.{Option, none, some}
 use Prim.Native.Nat.{ℕ, _≤_, _<_}
 use borrow.Author.Tests.{eqb-true, eq-eqb, ne-eqb, le-leb, lt-leb, lt-ltb, le-ltb}
 use lib.Dec.{eqb}
+use Rattle.automaton.specs.Priced.{Priced}
 use Rattle.automaton.specs.Steps.{edgeStep, step}
 use Rattle.automaton.proofs.Tests.{by-bool}
+use Rattle.automaton.proofs.Times.{edge-units}
 use Rattle.sheet.specs.Questions.{checkOf}
 use Rattle.sheet.specs.Decoded.{blankEdge, readOf}
 use Rattle.sheet.specs.declared.Edge.{Edge}
@@ -23,6 +26,11 @@ use Rattle.region.specs.Answers.{refusedStep, answered}
 use Rattle.region.specs.declared.Stepped.{Stepped}
 use Rattle.step.specs.Step.{answerAt, stepOf, stepIn}
 
+-- no edge takes time, so all are answered alike
+no-time : (o : Option (Priced ℕ)) (e : ℕ) → e ≤ 31 → answered 0 o ≡ answered e o
+no-time none e h = refl
+no-time (some v) e h = ap (λ (n : ℕ). record { refusal = 0; number = v .to; cost = v .cost; reward = v .reward; units = n }) (sym (edge-units e h))
+
 module _ (s : Sheet) (x : ℕ) where
   -- question 15
   pub no-location : s .locations ≤ bitsOf x 4 20 → false ≡ isNumber firstLayout (decodedMeaning s) x
@@ -38,26 +46,26 @@ module _ (s : Sheet) (x : ℕ) where
       ∙ ap (λ (b : Bool). b && isNumber firstLayout (alone (s .clocks) blankEdge (locationIn s (bitsOf x 4 20))) x) (lt-ltb _ _ h))
 
   -- an edge that the sheet does not have
-  pub no-edge : (e : ℕ) → e ≤ 31 → s .edges ≤ e → refusedStep 16 ≡ answered (stepBy firstLayout (decodedMeaning s) x e)
+  pub no-edge : (e : ℕ) → e ≤ 31 → s .edges ≤ e → refusedStep 16 ≡ answered e (stepBy firstLayout (decodedMeaning s) x e)
   unfolding stepBy step edgeStep decodedMeaning
   no-edge e h l = sym (simp (le-leb e 31 h, le-ltb e (s .edges) l))
 
-  pub no-code : (code : ℕ) → 31 < code → (code ≡ 32 → ⊥) → (code ≡ 33 → ⊥) → refusedStep 16 ≡ answered (stepBy firstLayout (decodedMeaning s) x code)
+  pub no-code : (code : ℕ) → 31 < code → (code ≡ 32 → ⊥) → (code ≡ 33 → ⊥) → refusedStep 16 ≡ answered code (stepBy firstLayout (decodedMeaning s) x code)
   unfolding stepBy step
   no-code code h m n = sym (simp (lt-leb code 31 h, ne-eqb code 32 m, ne-eqb code 33 n))
 
   -- an edge that it has, and a delay, by the records at hand
   pub edge-there : (e : ℕ) → e ≤ 31 → e < s .edges → (w : Edge) → w ≡ edgeIn s e → (l : Location) → l ≡ locationIn s (w .target)
-      → answered (stepBy firstLayout (alone (s .clocks) w l) x 0) ≡ answered (stepBy firstLayout (decodedMeaning s) x e)
+      → answered 0 (stepBy firstLayout (alone (s .clocks) w l) x 0) ≡ answered e (stepBy firstLayout (decodedMeaning s) x e)
   edge-there e h k w p l q =
-      ap₂ (λ (w : Edge) (l : Location). answered (stepBy firstLayout (alone (s .clocks) w l) x 0)) p (q ∙ ap (λ (w : Edge). locationIn s (w .target)) p)
-      ∙ sym (ap answered (edge-alone-number firstLayout s x e h k))
+      ap₂ (λ (w : Edge) (l : Location). answered 0 (stepBy firstLayout (alone (s .clocks) w l) x 0)) p (q ∙ ap (λ (w : Edge). locationIn s (w .target)) p)
+      ∙ sym (ap (answered 0) (edge-alone-number firstLayout s x e h k)) ∙ no-time (stepBy firstLayout (decodedMeaning s) x e) e h
 
   pub delay-there : (code c : ℕ) → code ≡ c → 31 < c → (l : Location) → l ≡ locationIn s (bitsOf x 4 20)
-      → answered (stepBy firstLayout (alone (s .clocks) blankEdge l) x c) ≡ answered (stepBy firstLayout (decodedMeaning s) x code)
+      → answered c (stepBy firstLayout (alone (s .clocks) blankEdge l) x c) ≡ answered code (stepBy firstLayout (decodedMeaning s) x code)
   unfolding nodeOf
-  delay-there code c p h l q = ap (λ (l : Location). answered (stepBy firstLayout (alone (s .clocks) blankEdge l) x c)) q
-      ∙ sym (ap answered (delay-alone-number firstLayout s x blankEdge c h)) ∙ ap (λ (m : ℕ). answered (stepBy firstLayout (decodedMeaning s) x m)) (sym p)
+  delay-there code c p h l q = ap (λ (l : Location). answered c (stepBy firstLayout (alone (s .clocks) blankEdge l) x c)) q
+      ∙ sym (ap (answered c) (delay-alone-number firstLayout s x blankEdge c h)) ∙ ap (λ (m : ℕ). answered m (stepBy firstLayout (decodedMeaning s) x m)) (sym p)
 
   -- ---- a whole step
 
@@ -71,7 +79,7 @@ module _ (s : Sheet) (x : ℕ) where
     step-nowhere z h = sym (simp (eq-eqb _ _ z, h))
 
     pub step-answered : s .refusal ≡ 0 → isNumber firstLayout (decodedMeaning s) x ≡ true
-        → answered (stepBy firstLayout (decodedMeaning s) x code) ≡ stepIn s x code
+        → answered code (stepBy firstLayout (decodedMeaning s) x code) ≡ stepIn s x code
     unfolding stepIn answerAt
     step-answered z h = sym (simp (eq-eqb _ _ z, h))
 
@@ -82,10 +90,10 @@ answers-agree : (bytes : List ℕ) → checkOf bytes ≡ 0 → (x code : ℕ)
 unfolding answerAt
 answers-agree bytes ok x code = sym (by-bool (isNumber firstLayout (meaning bytes) x)
     (λ t. ap₂ (λ (b : Bool) (v : Stepped). cond b v (refusedStep 15)) same
-    (ap answered (number-steps-agree firstLayout (meaning bytes) (decodedMeaning (readOf bytes)) agree (sound bytes ok) x code
+    (ap (answered code) (number-steps-agree firstLayout (meaning bytes) (decodedMeaning (readOf bytes)) agree (sound bytes ok) x code
     (node-there firstLayout (meaning bytes) (room bytes ok) x t))))
-    (λ f. ap (λ (b : Bool). cond b (answered (stepBy firstLayout (meaning bytes) x code)) (refusedStep 15)) f
-    ∙ sym (ap (λ (b : Bool). cond b (answered (stepBy firstLayout (decodedMeaning (readOf bytes)) x code)) (refusedStep 15)) (sym same ∙ f))))
+    (λ f. ap (λ (b : Bool). cond b (answered code (stepBy firstLayout (meaning bytes) x code)) (refusedStep 15)) f
+    ∙ sym (ap (λ (b : Bool). cond b (answered code (stepBy firstLayout (decodedMeaning (readOf bytes)) x code)) (refusedStep 15)) (sym same ∙ f))))
   where
     agree : Agree (meaning bytes) (decodedMeaning (readOf bytes))
     agree = read-agrees bytes ok

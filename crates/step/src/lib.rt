@@ -21,6 +21,7 @@ fn refused(refusal: u8) -> Stepped
         number: 0,
         cost: 0,
         reward: 0,
+        units: 0,
     }
 }
 
@@ -67,7 +68,7 @@ fn is_number(sheet: Sheet, number: u32) -> bool
 // The edge of a code, where the sheet has one.
 fn edge_from(sheet: Sheet, number: u32, e: usize) -> Stepped
     requires { ⌜ e ≤ 31 ⌝ }
-    ensures { λ r. ⌜ r ≡ answered (stepBy firstLayout (decodedMeaning sheet) number e) ⌝ }
+    ensures { λ r. ⌜ r ≡ answered e (stepBy firstLayout (decodedMeaning sheet) number e) ⌝ }
 {
     if (sheet.edges as usize) <= e {
         return region::not_allowed();
@@ -81,7 +82,7 @@ fn edge_from(sheet: Sheet, number: u32, e: usize) -> Stepped
 
 // Question 16.
 fn step_from(sheet: Sheet, number: u32, code: u16) -> Stepped
-    ensures { λ r. ⌜ r ≡ answered (stepBy firstLayout (decodedMeaning sheet) number code) ⌝ }
+    ensures { λ r. ⌜ r ≡ answered code (stepBy firstLayout (decodedMeaning sheet) number code) ⌝ }
 {
     match code {
         0..=31 => edge_from(sheet, number, code as usize),

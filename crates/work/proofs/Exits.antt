@@ -6,24 +6,20 @@ use mathlib.Core.List.{List, _++_}
 use Prim.Native.Nat.{ℕ, _+_, _≤_, _<_}
 use native.Mathlib.Omega.{arith}
 use lib.ListN.{length, take, length-append, length-map, length-replicate}
-use lib.Seq.{slice, length-slice}
+use lib.Seq.{slice}
 use Rattle.sheet.specs.Questions.{checkOf}
-use Rattle.nodes.specs.Meaning.{meaning, layoutOf}
-use Rattle.nodes.proofs.CheckedLaws.{sound, room}
+use Rattle.nodes.specs.Meaning.{meaning}
 use Rattle.schedules.specs.Closed.{isClosed}
 use Rattle.schedules.specs.Pairs.{Pair, waits, edgeNumbers}
 use Rattle.schedules.specs.Turning.{stemPairs, cyclePairs}
-use Rattle.schedules.proofs.NumberPlans.{number-plan}
 use Rattle.contract.specs.Accepted.{Accepted}
 use Rattle.contract.specs.Answers.{PlanAnswers}
 use Rattle.contract.specs.Plan.{Answer, Buffers, LongEnough, Judged, too-short, faulty, explored, stepOn, startOf, Planned}
-use Rattle.contract.proofs.Counts.{listed-few}
-use Rattle.contract.proofs.JustWhen.{on-its-condition}
 use Rattle.work.specs.Work.{refusedWork, PairBuffers, RoomForPairs, holding, zeroPairs, WorkJudged, no-room, no-plan, strict, all-closed, WorkAccepted, WorkPassed, Worked}
 use Rattle.work.specs.PrivatePromises.{withPairs, LassoWritten}
 use Rattle.work.specs.declared.Lengths.{Lengths}
 use Rattle.work.proofs.StoredLaws.{over-zeros}
-use Rattle.work.proofs.ClosedSheet.{some-clock}
+use Rattle.work.proofs.PlanRuns.{lasso-runs}
 
 -- what a plan answers in some buffers that are long enough, it answers in all
 pub answers-all : {bytes : List ℕ} {b : Buffers} {r : ℕ} → LongEnough b → Judged bytes b r → PlanAnswers bytes r
@@ -48,18 +44,6 @@ zeros-room {b} {before} e r = record {
   waits = omega (arith, ap (λ (x : PairBuffers). length (x .waits)) e, length-replicate {A = ℕ} (length (before .waits)) 0, r .waits);
   edges = omega (arith, ap (λ (x : PairBuffers). length (x .edges)) e, length-replicate {A = ℕ} (length (before .edges)) 0, r .edges);
 }
-
--- the lasso of an accepted plan is in its buffer
-module _ {bytes : List ℕ} {b b' : Buffers} {plan : Answer} (long : LongEnough b) (planned : Planned bytes b b' plan) (accepts : plan .refusal ≡ 0) where
-  pub lasso-short : plan .s + plan .m ≤ 2048
-  lasso-short = let p = planned .accepted accepts in omega (
-    arith,
-    p .short,
-    listed-few (stepOn bytes) (startOf bytes) (b' .nodes) (plan .n) (p .node-list) (on-its-condition bytes b (plan .refusal) (planned .judged) .just-0 .0 accepts .1),
-  )
-
-  pub lasso-there : plan .s + plan .m ≤ length (b' .steps)
-  lasso-there = omega (arith, lasso-short, planned .lengths .steps, long .steps)
 
 module _ {bytes : List ℕ} {before : PairBuffers} {a : Lengths} where
   refused-with : (r : ℕ) {after : PairBuffers} → a ≡ refusedWork r → 0 < r → WorkJudged bytes before r
@@ -96,11 +80,9 @@ module _ {bytes : List ℕ} {before : PairBuffers} {a : Lengths} where
     module _ {b b' : Buffers} {plan : Answer} {after : PairBuffers} (long : LongEnough b) (planned : Planned bytes b b' plan) (accepts : plan .refusal ≡ 0)
         (closed : isClosed (meaning bytes) ≡ true)
         (w : LassoWritten cleared after (take (plan .s) (b' .steps)) (slice (plan .s) (plan .s + plan .m) (b' .steps)) a) where
-      p : Accepted (stepOn bytes) (startOf bytes) (plan .p) (plan .q) (plan .n) (plan .s) (plan .m) (b' .nodes) (b' .potentials) (b' .steps)
+      abbrev p : Accepted (stepOn bytes) (startOf bytes) (plan .p) (plan .q) (plan .n) (plan .s) (plan .m) (plan .units) (plan .cost) (plan .reward)
+          (b' .nodes) (b' .potentials) (b' .steps)
       p = planned .accepted accepts
-
-      some-code : 0 < length (slice (plan .s) (plan .s + plan .m) (b' .steps))
-      some-code = omega (arith, length-slice (plan .s) (plan .s + plan .m) (b' .steps) (lasso-there long planned accepts), p .lasso .some-step)
 
       yes : PlanAnswers bytes 0
       yes = subst (PlanAnswers bytes) accepts (answers-all long (planned .judged))
@@ -132,7 +114,7 @@ module _ {bytes : List ℕ} {before : PairBuffers} {a : Lengths} where
         written = held before empty (x .0) (stem ++ cycle) (omega (arith, length-append stem cycle, w .few)) (w .is);
         cost = p .lasso .cost;
         reward = p .lasso .reward;
-        runs = number-plan (layoutOf bytes) (meaning bytes) (room bytes (x .1)) (sound bytes (x .1)) closed (some-clock bytes (x .1)) (p .lasso .stem) some-code (p .lasso .cycle);
+        runs = lasso-runs planned accepts closed;
         earns = p .lasso .earns;
         exact = p .lasso .exact;
         no-loop-below = planned .no-loop-below accepts;

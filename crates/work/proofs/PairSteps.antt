@@ -10,7 +10,8 @@ use native.Mathlib.Omega.{arith}
 use borrow.Author.Tests.{eq-eqb, ne-eqb}
 use lib.ListN.{length, getD, set, length-set}
 use lib.Seq.{slice, slice-empty}
-use Rattle.schedules.specs.Pairs.{Pair, unitsOf, pairsFrom}
+use Rattle.automaton.specs.Times.{unitsOf}
+use Rattle.schedules.specs.Pairs.{Pair, pairsFrom}
 use Rattle.schedules.specs.WalkTerms.{restFrom}
 use Rattle.schedules.proofs.CodeLaws.{pairs-none, pairs-edge, pairs-delay, rest-none, rest-edge, rest-delay}
 use Rattle.schedules.proofs.PairLaws.{units-small}

@@ -80,6 +80,21 @@ pub fn slow_ring(random: &mut Random, shape: &Shape) -> Sheet {
     made
 }
 
+/// One location, and three clocks that each have to be reset at a number of their own: a run comes
+/// back only where all are reset at once, after 420 to 504 units.
+pub fn slow_clocks(random: &mut Random, shape: &Shape) -> Sheet {
+    let mut made = sheet(random, shape);
+    let units = random.pick(&[[9, 8, 7], [11, 7, 6], [11, 8, 5], [11, 9, 5], [12, 7, 5]]);
+    made.locations[0].upper = units.map(|units| 2 * units + 1);
+    for (clock, units) in units.into_iter().enumerate() {
+        let mut edge = Edge { mask: 1 << clock, ..Edge::default() };
+        (edge.cost, edge.reward) = (cost(random, shape.prices), reward(random, shape.prices));
+        edge.lower[clock] = Some(2 * units);
+        made.edges.push(edge);
+    }
+    made
+}
+
 /// A slow ring that earns nothing, and can be left just before it would come back: the stem is long.
 pub fn slow_ring_left(random: &mut Random, shape: &Shape) -> Sheet {
     let mut made = slow_ring(random, shape);

@@ -2,11 +2,11 @@
 
 use crate::arguments::Arguments;
 use crate::expected::expect;
-use crate::fault::Planner;
 use crate::hexadecimal;
 use crate::judge_plan::judge_plan;
 use crate::judge_step::{expected_step, Answer};
 use crate::judge_work::judge_work;
+use crate::library::Planner;
 use crate::marked::step_numbers;
 use crate::random::Random;
 use crate::sha256::digest;
@@ -55,8 +55,12 @@ fn judge_check(planner: &Planner, row: &Row) -> Verdict<()> {
 
 fn judge_step(planner: &Planner, row: &Row, random: &mut Random) -> Verdict<()> {
     let (node, code) = (row.number(1)?, row.number(2)?);
-    let numbers =
-        StepNumbers { number: row.number(4)?, cost: row.number(5)?, reward: row.number(6)? };
+    let numbers = StepNumbers {
+        number: row.number(4)?,
+        cost: row.number(5)?,
+        reward: row.number(6)?,
+        units: row.number(7)?,
+    };
     let frozen: Answer = (row.number(3)?, numbers);
     let read = read(&row.sheet);
     let here = expected_step(read.as_ref().map_err(|refusal| *refusal), node, code);
@@ -106,7 +110,7 @@ pub fn run(arguments: &Arguments) -> Verdict<()> {
     for row in &checks {
         judge_check(&planner, row).map_err(named(row))?;
     }
-    let steps = rows(folder, "step.tsv", 7)?;
+    let steps = rows(folder, "step.tsv", 8)?;
     for row in &steps {
         judge_step(&planner, row, random).map_err(named(row))?;
     }

@@ -13,7 +13,7 @@ use crate::tally::Tally;
 pub const SHEETS: u64 = 20_000;
 
 /// Each kind and the least number of its cases among so many sheets.
-pub const PROMISED: [(&str, u64); 70] = [
+pub const PROMISED: [(&str, u64); 76] = [
     ("plan answers:  0", 4000),
     ("plan answers:  1", 20_000),
     ("plan answers:  2", 100),
@@ -44,6 +44,12 @@ pub const PROMISED: [(&str, u64); 70] = [
     ("step answers: 15", 100_000),
     ("step answers: 16", 100_000),
     ("step answers: 17", 100_000),
+    ("step answers to codes 0 to 31:  0", 10_000),
+    ("step answers to code 32:  0", 3000),
+    ("step answers to code 32: 15", 3000),
+    ("step answers to code 32: 16", 3000),
+    ("step answers to code 32: 17", 1000),
+    ("step answers to code 33:  0", 3000),
     ("damaged variants, check answers: 17", 1000),
     ("accepted: 1 clock", 500),
     ("accepted: 2 clocks", 500),

@@ -1,6 +1,6 @@
 //! The reachable nodes and the steps between them, breadth first.
 
-use crate::region::{node_of, step, Node, MOVE};
+use crate::region::{node_of, step, Node, Step, MOVE};
 use crate::sheet::Sheet;
 use crate::weights::Arc;
 use std::collections::HashMap;
@@ -24,7 +24,7 @@ pub fn explore(sheet: &Sheet, limit: usize) -> Graph {
     let mut from = 0;
     while from < nodes.len() && nodes.len() <= limit {
         for code in 0..=MOVE {
-            if let Some((next, cost, reward)) = step(sheet, &nodes[from], code) {
+            if let Some(Step { to: next, cost, reward, .. }) = step(sheet, &nodes[from], code) {
                 let to = *found.entry(next.number()).or_insert_with(|| {
                     nodes.push(next);
                     nodes.len() - 1

@@ -1,13 +1,11 @@
-//! The library's answers, with a planted fault between the library and the comparison if asked.
+//! The faults that can be planted, by their names.
 
-use crate::explore::MOST_NODES;
-use crate::marked::{Buffers, PairBuffers};
-use crate::planted::{accepted, refused};
 use crate::planted_pairs::{PairFault, PAIR_FAULTS};
 use crate::planted_strict::{Question18, QUESTION_18_FAULTS};
+use crate::planted_sums::{SumFault, SUM_FAULTS};
 use crate::planted_twice::{Twice, TWICE_FAULTS};
+use crate::planted_units::{UnitFault, LASSO_UNIT_FAULTS, UNIT_FAULTS};
 use crate::planted_work::{Work, WORK_FAULTS};
-use planner::calls::{self, PlanNumbers, StepNumbers, WorkNumbers};
 
 #[derive(Clone, Copy, Debug, PartialEq)]
 pub enum Fault {
@@ -69,6 +67,12 @@ pub enum Fault {
     Prices,
     /// 16 in place of 15.
     Number,
+    /// A fault in the units of a single step, but not along a lasso.
+    Units(UnitFault),
+    /// A fault in the units of a single step along a lasso.
+    LassoUnits(UnitFault),
+    /// A fault in the units, the cost and the reward of a plan's cycle.
+    Sums(SumFault),
     /// A fault in question 17.
     Twice(Twice),
     /// A fault in the pairs of a work plan.
@@ -114,85 +118,12 @@ const FAULTS: [(&str, Fault); 29] = [
 /// Each fault with its name.
 pub fn faults() -> Vec<(&'static str, Fault)> {
     let mut faults = FAULTS.to_vec();
+    faults.extend(UNIT_FAULTS.map(|(name, fault)| (name, Fault::Units(fault))));
+    faults.extend(LASSO_UNIT_FAULTS.map(|(name, fault)| (name, Fault::LassoUnits(fault))));
+    faults.extend(SUM_FAULTS.map(|(name, fault)| (name, Fault::Sums(fault))));
     faults.extend(TWICE_FAULTS.map(|(name, fault)| (name, Fault::Twice(fault))));
     faults.extend(PAIR_FAULTS.map(|(name, fault)| (name, Fault::Pairs(fault))));
     faults.extend(WORK_FAULTS.map(|(name, fault)| (name, Fault::Work(fault))));
     faults.extend(QUESTION_18_FAULTS.map(|(name, fault)| (name, Fault::Question18(fault))));
     faults
-}
-
-pub struct Planner {
-    pub fault: Option<Fault>,
-}
-
-impl Planner {
-    pub fn check(&self, sheet: &[u8]) -> u8 {
-        match (self.fault, calls::check(sheet)) {
-            (Some(Fault::Check), 8) => 9,
-            (Some(Fault::Twice(twice)), refusal) => twice.checked(sheet, refusal),
-            (_, refusal) => refusal,
-        }
-    }
-
-    pub fn step(&self, sheet: &[u8], node: u32, code: u16, numbers: &mut StepNumbers) -> u8 {
-        let swapped = self.fault == Some(Fault::Step) && (code == 32 || code == 33);
-        let code = if swapped { 65 - code } else { code };
-        let before = *numbers;
-        let refusal = calls::step(sheet, node, code, numbers);
-        match (self.fault, refusal) {
-            (Some(Fault::Number), 15) => return 16,
-            (Some(Fault::Twice(Twice::Step)), 17) => return 16,
-            (Some(Fault::Stale), 2..) => numbers.cost = before.cost,
-            _ => {}
-        }
-        refusal
-    }
-
-    pub fn lasso_step(&self, sheet: &[u8], node: u32, code: u16, numbers: &mut StepNumbers) -> u8 {
-        let refusal = calls::step(sheet, node, code, numbers);
-        if self.fault == Some(Fault::Prices) {
-            (numbers.cost, numbers.reward) = (numbers.reward, numbers.cost);
-        }
-        refusal
-    }
-
-    pub fn plan(&self, sheet: &[u8], buffers: &mut Buffers, numbers: &mut PlanNumbers) -> u8 {
-        let before = *numbers;
-        let Buffers { nodes, potentials, steps } = buffers;
-        let refusal = calls::plan(sheet, nodes, potentials, steps, numbers);
-        match (self.fault, refusal) {
-            (None, _) => refusal,
-            (Some(fault), 0) => accepted(fault, sheet, buffers, numbers),
-            (Some(Fault::Unwritten), 2..) => {
-                numbers.m = before.m;
-                refusal
-            }
-            (Some(fault), _) => refused(fault, refusal, sheet, buffers, numbers),
-        }
-    }
-
-    pub fn work(&self, sheet: &[u8], buffers: &mut PairBuffers, numbers: &mut WorkNumbers) -> u8 {
-        let before = (buffers.clone(), *numbers);
-        let refusal = calls::work(sheet, &mut buffers.waits, &mut buffers.edges, numbers);
-        match self.fault {
-            Some(Fault::Pairs(fault)) if refusal == 0 => {
-                fault.plant(sheet, buffers, numbers);
-                0
-            }
-            Some(Fault::Work(fault)) => fault.plant(sheet, refusal, before, buffers, numbers),
-            Some(Fault::Question18(fault)) => fault.plant(sheet, refusal, numbers),
-            _ => refusal,
-        }
-    }
-
-    /// The refusal and the numbers of a plan.
-    pub fn answer(&self, sheet: &[u8]) -> (u8, PlanNumbers) {
-        let mut buffers = Buffers {
-            nodes: vec![0; MOST_NODES],
-            potentials: vec![0; MOST_NODES],
-            steps: vec![0; MOST_NODES],
-        };
-        let mut numbers = PlanNumbers::default();
-        (self.plan(sheet, &mut buffers, &mut numbers), numbers)
-    }
 }

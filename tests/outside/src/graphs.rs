@@ -4,9 +4,9 @@ use crate::arguments::Arguments;
 use crate::cases::rows;
 use crate::coverage::SHEETS;
 use crate::expected::expect;
-use crate::fault::Planner;
 use crate::hexadecimal;
 use crate::kinds::generate;
+use crate::library::Planner;
 use crate::verdict::Verdict;
 use std::io::Write;
 

@@ -2,8 +2,8 @@
 
 use crate::damage::{damage, damage_more};
 use crate::expected::Expected;
-use crate::fault::Planner;
 use crate::hexadecimal;
+use crate::library::Planner;
 use crate::random::Random;
 use crate::sheet::read;
 use crate::tally::Tally;

@@ -2,8 +2,8 @@
 
 use crate::expected::Expected;
 use crate::explore::{Graph, MOST_NODES};
-use crate::fault::Planner;
-use crate::judge_lasso::judge_lasso;
+use crate::judge_lasso::{judge_lasso, Sums};
+use crate::library::Planner;
 use crate::marked::{self, Buffers};
 use crate::random::Random;
 use crate::verdict::{all_zero, same, untouched, Verdict};
@@ -18,6 +18,8 @@ pub struct Answer {
     /// The step codes of the lasso.
     pub stem: Vec<u16>,
     pub cycle: Vec<u16>,
+    pub stem_sums: Sums,
+    pub cycle_sums: Sums,
     /// The node numbers and then the potentials as bytes, for a digest.
     pub bytes: Vec<u8>,
 }
@@ -91,13 +93,13 @@ fn judge_accepted(
     buffers: &Buffers,
     numbers: &PlanNumbers,
 ) -> Verdict<Answer> {
-    let PlanNumbers { p, q, n, s, m } = *numbers;
+    let PlanNumbers { p, q, n, s, m, .. } = *numbers;
     let graph = expected.graph.as_ref().expect("an accepted sheet has a graph");
     judge_ratio(p, q)?;
     let count = judge_nodes(graph, buffers, n)?;
     judge_potentials(graph, buffers, p, q)?;
     let sheet = expected.sheet.as_ref().expect("an accepted sheet is read");
-    judge_lasso(planner, bytes, sheet, buffers, numbers)?;
+    let (stem_sums, cycle_sums) = judge_lasso(planner, bytes, sheet, buffers, numbers)?;
     let nodes = buffers.nodes[..count].iter().flat_map(|number| number.to_le_bytes());
     let potentials = &buffers.potentials[..count];
     let (stem, length) = (s as usize, (s + m) as usize);
@@ -106,6 +108,8 @@ fn judge_accepted(
         q,
         stem: buffers.steps[..stem].to_vec(),
         cycle: buffers.steps[stem..length].to_vec(),
+        stem_sums,
+        cycle_sums,
         lowest_potential: potentials.iter().copied().min().expect("the start has a potential"),
         bytes: nodes.chain(potentials.iter().flat_map(|weight| weight.to_le_bytes())).collect(),
     })

@@ -1,17 +1,23 @@
 //! Single steps of the library against the steps taken here.
 
 use crate::expected::Expected;
-use crate::fault::Planner;
+use crate::library::Planner;
 use crate::marked::step_numbers;
 use crate::random::Random;
-use crate::region::{node_of, step, Node};
+use crate::region::{node_of, step, Node, Step, MOVE, UNIT};
 use crate::sheet::Sheet;
 use crate::tally::Tally;
 use crate::verdict::{same, Verdict};
 use planner::calls::StepNumbers;
 
-/// The refusal, and the new node's number, the cost and the reward.
+/// The refusal, and the new node's number, the cost, the reward and the units.
 pub type Answer = (u8, StepNumbers);
+
+/// What the library has to tell of an allowed step.
+pub fn told(step: &Step) -> StepNumbers {
+    let Step { to, cost, reward, units } = *step;
+    StepNumbers { number: to.number(), cost, reward, units }
+}
 
 pub fn expected_step(bytes_read: Result<&Sheet, u8>, number: u32, code: u16) -> Answer {
     let refused = |refusal| (refusal, StepNumbers::default());
@@ -23,7 +29,7 @@ pub fn expected_step(bytes_read: Result<&Sheet, u8>, number: u32, code: u16) -> 
         None => refused(15),
         Some(node) => match step(sheet, &node, code) {
             None => refused(16),
-            Some((next, cost, reward)) => (0, StepNumbers { number: next.number(), cost, reward }),
+            Some(taken) => (0, told(&taken)),
         },
     }
 }
@@ -58,6 +64,30 @@ fn numbers(expected: &Expected, random: &mut Random) -> Vec<u32> {
     numbers
 }
 
+/// The kinds of codes.
+const KINDS: [&str; 4] = ["codes 0 to 31", "code 32", "code 33", "codes beyond"];
+
+fn kind(code: u16) -> usize {
+    match code {
+        ..UNIT => 0,
+        UNIT => 1,
+        MOVE => 2,
+        _ => 3,
+    }
+}
+
+/// How often each number is answered to each kind of code.
+type Answers = [[u64; 18]; KINDS.len()];
+
+fn count_answers(answers: &Answers, tally: &mut Tally) {
+    for (kind, counts) in KINDS.iter().zip(answers) {
+        for (answer, &count) in counts.iter().enumerate().filter(|(_, &count)| count > 0) {
+            tally.add(format!("step answers: {answer:>2}"), count);
+            tally.add(format!("step answers to {kind}: {answer:>2}"), count);
+        }
+    }
+}
+
 /// Every code from 0 to 40 and some far beyond, at nodes and at other numbers.
 pub fn judge_steps(
     planner: &Planner,
@@ -67,7 +97,7 @@ pub fn judge_steps(
     tally: &mut Tally,
 ) -> Verdict<()> {
     let read = expected.sheet.as_ref().ok_or(expected.refusal);
-    let mut answers = [0; 18];
+    let mut answers = Answers::default();
     for number in numbers(expected, random) {
         let far = [255, 256, 256 + 32, 256 + 33, 1 << 15 | 32, 65_535, random.next() as u16];
         for code in (0..=40).chain(far) {
@@ -76,11 +106,9 @@ pub fn judge_steps(
             let refusal = planner.step(bytes, number, code, &mut numbers);
             same(&format!("step {code} at {number}"), refusal, answer.0)?;
             same(&format!("numbers of step {code} at {number}"), numbers, answer.1)?;
-            answers[usize::from(answer.0)] += 1;
+            answers[kind(code)][usize::from(answer.0)] += 1;
         }
     }
-    for (answer, &count) in answers.iter().enumerate().filter(|(_, &count)| count > 0) {
-        tally.add(format!("step answers: {answer:>2}"), count);
-    }
+    count_answers(&answers, tally);
     Ok(())
 }

@@ -1,8 +1,8 @@
 //! A work plan of the library against the answer expected here; its pairs are replayed.
 
 use crate::expected::Expected;
-use crate::fault::Planner;
 use crate::judge_plan::Answer;
+use crate::library::Planner;
 use crate::marked::{self, PairBuffers};
 use crate::random::Random;
 use crate::replay::{replay, Pair};

@@ -48,11 +48,11 @@ pub fn work_numbers(random: &mut Random) -> WorkNumbers {
 }
 
 pub fn plan_numbers(random: &mut Random) -> PlanNumbers {
-    let [p, q, n, s, m] = [(); 5].map(|_| random.next() as i64 | 1);
-    PlanNumbers { p, q, n, s, m }
+    let [p, q, n, s, m, units, cost, reward] = [(); 8].map(|_| random.next() as i64 | 1);
+    PlanNumbers { p, q, n, s, m, units, cost, reward }
 }
 
 pub fn step_numbers(random: &mut Random) -> StepNumbers {
-    let [cost, reward] = [(); 2].map(|_| random.next() as i64 | 1);
-    StepNumbers { number: random.next() as u32 | 1, cost, reward }
+    let [cost, reward, units] = [(); 3].map(|_| random.next() as i64 | 1);
+    StepNumbers { number: random.next() as u32 | 1, cost, reward, units }
 }

@@ -2,10 +2,10 @@
 //! promises where no bound and no guard is strict.
 
 use crate::arguments::Arguments;
-use crate::fault::Planner;
 use crate::generate::{leave_out_copies, sheet, Shape};
 use crate::hexadecimal;
 use crate::idle::{lay, take_rewards, Laid};
+use crate::library::Planner;
 use crate::questions::{idle_cycles, some_cycle_earns, some_idle_cycle_gains, Idle};
 use crate::random::Random;
 use crate::runs::{explore, loop_below, Runs};

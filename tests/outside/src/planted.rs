@@ -55,7 +55,7 @@ fn refuse(refusal: u8, buffers: &mut Buffers, numbers: &mut PlanNumbers) -> u8 {
 
 /// A ratio that no cycle that earns is below; the buffers stay as they are.
 fn accept(numbers: &mut PlanNumbers) -> u8 {
-    *numbers = PlanNumbers { p: -20_480_000, q: 1, n: 1, s: 0, m: 1 };
+    *numbers = PlanNumbers { p: -20_480_000, q: 1, n: 1, m: 1, ..PlanNumbers::default() };
     0
 }
 

@@ -10,8 +10,14 @@ pub struct Node {
     pub corner: u8,
 }
 
-/// Where a step leads, its cost and its reward.
-pub type Step = (Node, i64, i64);
+/// Where a step leads, and what it costs, earns and takes.
+pub struct Step {
+    pub to: Node,
+    pub cost: i64,
+    pub reward: i64,
+    /// In units of time.
+    pub units: i64,
+}
 
 pub const UNIT: u16 = 32;
 pub const MOVE: u16 = 33;
@@ -97,7 +103,7 @@ fn take_edge(sheet: &Sheet, node: &Node, edge: &Edge) -> Option<Step> {
     let close_up = |rank: u8| (1..=rank).filter(|&r| left[usize::from(r)]).count() as u8;
     next.class = next.class.map(close_up);
     next.corner = close_up(node.corner);
-    Some((next, edge.cost, edge.reward))
+    Some(Step { to: next, cost: edge.cost, reward: edge.reward, units: 0 })
 }
 
 fn take_move(node: &Node, clocks: usize) -> Option<Node> {
@@ -125,14 +131,15 @@ fn take_unit(sheet: &Sheet, node: &Node) -> Option<Step> {
         return None;
     }
     let here = &sheet.locations[node.location];
-    Some((Node { corner: 0, ..*node }, here.cost, here.reward))
+    let to = Node { corner: 0, ..*node };
+    Some(Step { to, cost: here.cost, reward: here.reward, units: 1 })
 }
 
 pub fn step(sheet: &Sheet, node: &Node, code: u16) -> Option<Step> {
     let taken = match code {
         UNIT => take_unit(sheet, node),
-        MOVE => take_move(node, sheet.clocks).map(|next| (next, 0, 0)),
+        MOVE => take_move(node, sheet.clocks).map(|to| Step { to, cost: 0, reward: 0, units: 0 }),
         _ => sheet.edges.get(usize::from(code)).and_then(|edge| take_edge(sheet, node, edge)),
     };
-    taken.filter(|(next, _, _)| within(&sheet.locations[next.location], next, sheet.clocks))
+    taken.filter(|Step { to, .. }| within(&sheet.locations[to.location], to, sheet.clocks))
 }

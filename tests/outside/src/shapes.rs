@@ -96,6 +96,7 @@ pub fn shape_of(random: &mut Random, kind: &str) -> Shape {
             let locations = 1 + random.below(11);
             Shape { clocks: 3, ..ring_shape(random, locations) }
         }
+        "slow clocks" => Shape { clocks: 3, ..ring_shape(random, 1) },
         "dear ring" => {
             let locations = 11 + random.below(2);
             ring_shape(random, locations)

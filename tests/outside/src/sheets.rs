@@ -4,15 +4,16 @@ use crate::alike::{self, count_alike, count_but_for_17};
 use crate::arguments::Arguments;
 use crate::coverage::{count_accepted, count_refused, PROMISED, SHEETS};
 use crate::coverage_strict;
+use crate::coverage_sums::{self, count_sums};
 use crate::coverage_work::{self, count_work};
 use crate::expected::{expect, refusal_but_for_17, Expected};
-use crate::fault::Planner;
 use crate::hexadecimal;
 use crate::judge_check::judge_check;
 use crate::judge_plan::judge_plan;
 use crate::judge_step::judge_steps;
 use crate::judge_work::judge_work;
 use crate::kinds::{generate, STRICT_AND_FAULT, TWICE_AND_FAULT};
+use crate::library::Planner;
 use crate::random::Random;
 use crate::sheet::read_records;
 use crate::tally::Tally;
@@ -47,7 +48,8 @@ fn judge(planner: &Planner, bytes: &[u8], seed: u64, tally: &mut Tally) -> Verdi
     }
     match (&expected, answer) {
         (Expected { sheet: Some(sheet), graph: Some(graph), .. }, Some(answer)) => {
-            count_accepted(tally, sheet, graph, answer)
+            count_accepted(tally, sheet, graph, answer);
+            count_sums(tally, answer);
         }
         _ => count_refused(tally, &expected),
     }
@@ -80,6 +82,7 @@ pub fn run(arguments: &Arguments) -> Verdict<()> {
     if arguments.complete {
         tally.keeps(&PROMISED)?;
         tally.keeps(&alike::promised())?;
+        tally.keeps(&coverage_sums::PROMISED)?;
         tally.keeps(&coverage_work::promised())?;
         tally.keeps(&coverage_strict::promised())?;
     }

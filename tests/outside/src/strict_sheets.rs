@@ -1,6 +1,6 @@
 //! Sheets for question 18: with no strict bound or guard, with one, and with a fault beside some.
 
-use crate::built::{long, ring, ring_entered_late, slow_ring, slow_ring_left};
+use crate::built::{long, ring, ring_entered_late, slow_clocks, slow_ring, slow_ring_left};
 use crate::expected::refusal_but_for_17;
 use crate::generate::{leave_out_copies, sheet, Shape};
 use crate::random::Random;
@@ -31,6 +31,7 @@ fn closed_like(random: &mut Random, kinds: &[&'static str]) -> Sheet {
         "ring entered late" => ring_entered_late(random, &shape),
         "slow ring" => slow_ring(random, &shape),
         "slow ring left" => slow_ring_left(random, &shape),
+        "slow clocks" => slow_clocks(random, &shape),
         // As many edges as a sheet may have.
         "large" => sheet(random, &Shape { edges: 32, ..shape }),
         _ => sheet(random, &shape),
@@ -40,8 +41,9 @@ fn closed_like(random: &mut Random, kinds: &[&'static str]) -> Sheet {
 }
 
 pub fn closed(random: &mut Random) -> Sheet {
-    if random.percent(12) {
-        return closed_like(random, &["slow ring", "slow ring left"]);
+    if random.percent(15) {
+        let (slow, left) = ("slow ring", "slow ring left");
+        return closed_like(random, &[slow, slow, left, left, "slow clocks"]);
     }
     let (large, late) = ("large", "ring entered late");
     closed_like(random, &["small", "tiny", large, large, "idle", "extreme", "ring", late])

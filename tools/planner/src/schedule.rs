@@ -1,5 +1,6 @@
 //! A schedule: a stem once, and a cycle repeating.
 
+use crate::fraction::fraction;
 use crate::sheet::Sheet;
 
 /// Wait in a location, then take an edge. Times, costs and rewards are counted in nths.
@@ -25,12 +26,33 @@ pub struct Schedule {
     pub cycle: Vec<Row>,
 }
 
-/// What a part of a schedule takes, costs and earns, in nths.
+/// What a part of a schedule takes, costs and earns, in nths; what a walk does, in whole units.
 #[derive(Clone, Copy, Debug, Default, PartialEq, Eq)]
 pub struct Sum {
     pub time: i64,
     pub cost: i64,
     pub reward: i64,
+}
+
+impl Sum {
+    /// The same in nths.
+    pub fn times(self, nths: i64) -> Sum {
+        Sum { time: nths * self.time, cost: nths * self.cost, reward: nths * self.reward }
+    }
+
+    /// In units, of which each has so many nths.
+    pub fn words(&self, nths: i64) -> String {
+        let [time, cost, reward] = [self.time, self.cost, self.reward].map(|count| fraction(count.into(), nths.into()));
+        format!("takes {time}, costs {cost}, earns {reward}")
+    }
+}
+
+impl std::ops::Sub for Sum {
+    type Output = Sum;
+
+    fn sub(self, before: Sum) -> Sum {
+        Sum { time: self.time - before.time, cost: self.cost - before.cost, reward: self.reward - before.reward }
+    }
 }
 
 pub fn sum(rows: &[Row]) -> Sum {

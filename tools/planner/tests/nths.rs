@@ -43,7 +43,7 @@ fn assert_along(schedule: &Schedule, corners: &Corners) {
 
 /// How much dearer than the ratio a loop is, as a fraction.
 fn above(found: &Loop, p: i128, q: i128) -> f64 {
-    let [cost, reward] = [found.cost, found.reward].map(i128::from);
+    let [cost, reward] = [found.sum.cost, found.sum.reward].map(i128::from);
     assert!(q * cost >= p * reward, "no loop is cheaper");
     (q * cost - p * reward) as f64 / (q * reward) as f64
 }
@@ -110,7 +110,7 @@ fn rings_that_earn_by_waiting_have_runs_that_earn() {
         for n in [first, first + 1, 100] {
             let schedule = inside(&sheet, &corners, n).unwrap_or_else(|| panic!("turn {turn}: none in {n} nths"));
             let found = replayed(&sheet, &schedule);
-            assert!(found.reward > 0, "turn {turn}: {found}");
+            assert!(found.sum.reward > 0, "turn {turn}: {found}");
             assert_along(&schedule, &corners);
             above(&found, p, q);
         }

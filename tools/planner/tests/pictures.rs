@@ -9,13 +9,23 @@ mod well_formed;
 
 use schedules::{all, schedule, BEACON, BEACON_RUN, BENCH, LOADER, PRODUCTION, PRODUCTION_RUN, ROUND};
 use std::collections::BTreeSet;
-use tool::picture::{chart, labels, Label};
+use tool::picture::{self, Label};
+use tool::schedule::{sum, Schedule, Sum};
 use tool::sheet::Sheet;
 use tool::text::parse;
 use well_formed::{number, places, size, tags, value};
 
 /// With signs that XML escapes, and one that it does not admit.
 const TITLE: &str = "a <title> & \"more\" \u{1}";
+
+/// With the sums of the rows for what the cycle takes, costs and earns.
+fn chart(sheet: &Sheet, title: &str, schedule: &Schedule) -> String {
+    picture::chart(sheet, title, schedule, sum(&schedule.cycle))
+}
+
+fn labels(sheet: &Sheet, title: &str, schedule: &Schedule) -> Vec<Label> {
+    picture::labels(sheet, title, schedule, sum(&schedule.cycle))
+}
 
 #[test]
 fn charts_are_well_formed_and_stay_inside() {
@@ -109,6 +119,14 @@ fn parts_and_prices_are_told() {
     assert!(found.contains(&"cycle: 16/5 units, cost 87/10, reward 4, ratio 87/40 (2.1750)".to_string()));
     assert!(found.contains(&"21/10".to_string()) && found.contains(&"strict bound: not reached".to_string()));
     assert!(!found.contains(&"once".to_string()));
+}
+
+#[test]
+fn the_cycle_is_told_as_it_is_handed_over() {
+    let sheet = parse(PRODUCTION).unwrap();
+    let found = picture::labels(&sheet, "t", &schedule(&sheet, PRODUCTION_RUN), Sum { time: 7, cost: 61, reward: 42 });
+    let told = |words: &str| found.iter().filter(|label| label.text == words).count();
+    assert_eq!([told("cycle: 7 units, cost 61, reward 42, ratio 61/42 (1.4524)"), told("repeats, every 7 units")], [1, 1]);
 }
 
 #[test]

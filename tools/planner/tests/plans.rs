@@ -3,11 +3,10 @@
 mod common;
 
 use common::{source, Dice};
-use tool::certificate::Certificate;
 use tool::input::Held;
 use tool::plan::text::text;
-use tool::plan::{json::json, lasso::examined, planned, Buffers, NoRun, Outcome, Planned, Standing};
-use tool::schedule::sum;
+use tool::plan::{json::json, lasso::examined, planned, Buffers, NoRun, Outcome, Plan, Planned, Standing};
+use tool::schedule::{sum, Sum};
 use tool::sheet::encode::encode;
 use tool::source::Source;
 use tool::stop::Stop;
@@ -20,7 +19,7 @@ fn plan(source: Source, finer: Option<i64>) -> Planned {
 }
 
 /// What is told of the plan of a sheet that is altered so.
-fn told(name: &str, alter: impl FnOnce(&mut Certificate)) -> String {
+fn told(name: &str, alter: impl FnOnce(&mut Plan)) -> String {
     let mut plan = plan(source(name), None).plan;
     examined(&plan).expect("in order as it is");
     alter(&mut plan);
@@ -33,12 +32,16 @@ fn told(name: &str, alter: impl FnOnce(&mut Certificate)) -> String {
 #[test]
 fn a_plan_that_lies_is_told() {
     let lies = [
-        told("bench.txt", |plan| plan.p += 1),
-        told("bench.txt", |plan| plan.q += 1),
-        told("bench.txt", |plan| plan.cycle.truncate(1)),
-        told("bench.txt", |plan| plan.stem.push(0)),
-        told("bench.txt", |plan| plan.nodes.truncate(2)),
-        told("bench.txt", |plan| plan.cycle.clear()),
+        told("bench.txt", |plan| plan.certificate.p += 1),
+        told("bench.txt", |plan| plan.certificate.q += 1),
+        told("bench.txt", |plan| plan.certificate.cycle.truncate(1)),
+        told("bench.txt", |plan| plan.certificate.stem.push(0)),
+        told("bench.txt", |plan| plan.certificate.nodes.truncate(2)),
+        told("bench.txt", |plan| plan.certificate.cycle.clear()),
+        told("bench.txt", |plan| plan.cycle.time += 1),
+        told("bench.txt", |plan| plan.cycle.cost = 3),
+        told("bench.txt", |plan| plan.cycle.reward = 1),
+        told("bench.txt", |plan| plan.certificate.cycle = plan.certificate.cycle.repeat(2)),
     ];
     let wanted = [
         "the cycle costs 6 and earns 2, and the ratio is 4/1",
@@ -47,6 +50,10 @@ fn a_plan_that_lies_is_told() {
         "code 0 of the lasso at node",
         "is not among the nodes of the plan",
         "the cycle costs 0 and earns 0, and the ratio is 3/1",
+        "the cycle of the lasso takes 1, costs 6, earns 2, and the library answers that it takes 2, costs 6, earns 2",
+        "the cycle of the lasso takes 1, costs 6, earns 2, and the library answers that it takes 1, costs 3, earns 2",
+        "the cycle of the lasso takes 1, costs 6, earns 2, and the library answers that it takes 1, costs 6, earns 1",
+        "the cycle of the lasso takes 2, costs 12, earns 4, and the library answers that it takes 1, costs 6, earns 2",
     ];
     for (lie, wanted) in lies.iter().zip(wanted) {
         assert!(lie.contains(wanted), "'{lie}' lacks '{wanted}'");
@@ -70,7 +77,7 @@ fn what_is_shown_fits_the_sheet() {
 
 #[test]
 fn seeded_plans_are_shown_without_a_difference() {
-    let (mut dice, mut buffers, mut counts) = (Dice(4), Buffers::default(), [0; 6]);
+    let (mut dice, mut buffers, mut counts) = (Dice(4), Buffers::default(), [0; 7]);
     for turn in 0..4000 {
         let sheet = if turn % 2 == 0 { dice.small_sheet() } else { dice.ring_sheet() };
         let held = Held::Sheet(Source { name: format!("turn {turn}"), bytes: encode(&sheet), sheet });
@@ -85,13 +92,19 @@ fn seeded_plans_are_shown_without_a_difference() {
             }
             Outcome::Planned(planned) => {
                 let cycle = sum(&planned.schedule.cycle);
-                assert_eq!((cycle.cost, cycle.reward), (planned.replayed.cost, planned.replayed.reward), "turn {turn}");
+                assert_eq!(cycle, planned.replayed.sum, "turn {turn}");
                 assert!(cycle.reward > 0, "turn {turn}");
+                let (n, Sum { time, cost, reward }) = (planned.schedule.nths, planned.plan.cycle);
+                let own = |place: usize| {
+                    assert_eq!(cycle, Sum { time: n * time, cost: n * cost, reward: n * reward }, "turn {turn}");
+                    place
+                };
                 match planned.standing {
-                    Standing::Work => 1,
-                    Standing::Exact => 2,
-                    Standing::Corners(..) => 3,
+                    Standing::Work => own(1),
+                    Standing::Exact => own(2),
+                    Standing::Corners(..) => own(3),
                     Standing::Near => 4,
+                    Standing::Inside => 6,
                 }
             }
         };

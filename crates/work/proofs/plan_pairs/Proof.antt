@@ -15,7 +15,8 @@ use Rattle.contract.specs.Answers.{PlanAnswers}
 use Rattle.contract.specs.Plan.{Buffers, LongEnough}
 use Rattle.planner.specs.ContractTerms.{lentBuffers}
 use Rattle.work.proofs.ClosedSheet.{counts-in-range, read-closed}
-use Rattle.work.proofs.Exits.{answers-all, without-plan, strict-somewhere, lasso-short, lasso-there, work-given}
+use Rattle.work.proofs.PlanRuns.{lasso-short, lasso-there}
+use Rattle.work.proofs.Exits.{answers-all, without-plan, strict-somewhere, work-given}
 use Rattle.work.proofs.plan_pairs.Statement.{statement}
 use Rattle.work.proofs.plan_pairs.Tie as tie
 
@@ -93,7 +94,7 @@ write-lasso-requires : tie.Need-write-lasso-requires
 write-lasso-requires c κs =
     let i = c .before .before .before .before .before .before in
     let p = P i in
-    (lasso-short {b = lent} {b' = left p} long (p .plan .ensures) (accepts i), (lasso-there {b = lent} {b' = left p} long (p .plan .ensures) (accepts i), S p .pre .1 .1))
+    (lasso-short {b = lent} {b' = left p} (p .plan .ensures) (accepts i), (lasso-there {b = lent} {b' = left p} (p .plan .ensures) (accepts i), S p .pre .1 .1))
 
 same-length : tie.Need-same-length
 same-length c = search needs

@@ -4,6 +4,7 @@ use super::reading::node_words;
 use super::verify::{broken, Broken};
 use super::Certificate;
 use crate::fraction::common_divisor;
+use crate::schedule::Sum;
 use crate::walk::{walk, Stuck, Walk};
 
 /// The largest number of steps.
@@ -22,10 +23,10 @@ pub fn has_ratio(sheet: &[u8], certificate: &Certificate) -> Result<(), Broken> 
         let (start, end) = (node_words(sheet, start), node_words(sheet, round.end));
         return broken("cycle-closes", format!("the cycle begins at {start} and ends at {end}"));
     }
-    if round.reward <= 0 {
-        return broken("cycle-earns", format!("the cycle's reward is {}", round.reward));
+    let Sum { cost, reward, .. } = round.sum;
+    if reward <= 0 {
+        return broken("cycle-earns", format!("the cycle's reward is {reward}"));
     }
-    let Walk { cost, reward, .. } = round;
     if i128::from(*q) * i128::from(cost) != i128::from(*p) * i128::from(reward) {
         return broken("cycle-has-ratio", format!("the cycle costs {cost} and earns {reward}, which is not the ratio {p}/{q}"));
     }

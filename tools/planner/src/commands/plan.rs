@@ -20,9 +20,9 @@ struct Wanted<'a> {
 }
 
 fn title(held: &Held, planned: &Planned) -> String {
-    let (p, q) = (planned.plan.p, planned.plan.q);
+    let (p, q) = (planned.plan.certificate.p, planned.plan.certificate.q);
     let what = match planned.standing {
-        Standing::Work | Standing::Exact => "a schedule that attains the least ratio",
+        Standing::Work | Standing::Exact | Standing::Inside => "a schedule that attains the least ratio",
         Standing::Near => "a run near the least ratio",
         Standing::Corners(..) => "corner points, which are no run, with the least ratio",
     };
@@ -43,8 +43,9 @@ pub fn plan(command: &Command, words: &Words) -> Result<Answer, Stop> {
         let unwritten = svg.into_iter().chain(certificate).map(|path| format!("{}: not written\n", shown(path))).collect();
         return Ok(Answer { note: unwritten, ..Answer::refused(answer) });
     };
-    let chart = svg.map(|path| Wanted { path, what: "chart", text: chart(sheet, &title(&held, planned), &planned.schedule) });
-    let certificate = certificate.map(|path| Wanted { path, what: "certificate", text: written(&planned.plan) });
+    let chart =
+        svg.map(|path| Wanted { path, what: "chart", text: chart(sheet, &title(&held, planned), &planned.schedule, planned.cycle()) });
+    let certificate = certificate.map(|path| Wanted { path, what: "certificate", text: written(&planned.plan.certificate) });
     for wanted in chart.into_iter().chain(certificate) {
         output::write(wanted.path, wanted.text.as_bytes())?;
         if words.value("--json").is_none() {

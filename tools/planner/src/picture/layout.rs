@@ -2,7 +2,7 @@
 
 use super::timeline::Timeline;
 use super::{clocks, edges, lanes, parts};
-use crate::schedule::Schedule;
+use crate::schedule::{Schedule, Sum};
 use crate::sheet::Sheet;
 
 pub const MARGIN: f64 = 16.0;
@@ -25,6 +25,8 @@ pub struct Layout<'a> {
     pub sheet: &'a Sheet,
     pub title: &'a str,
     pub schedule: &'a Schedule,
+    /// What the cycle takes, costs and earns, as it is told.
+    pub cycle: Sum,
     pub line: Timeline<'a>,
     /// The left end of time.
     pub left: f64,
@@ -44,7 +46,7 @@ fn waymarks(width: f64) -> Vec<f64> {
 }
 
 impl<'a> Layout<'a> {
-    pub fn new(sheet: &'a Sheet, title: &'a str, schedule: &'a Schedule) -> Layout<'a> {
+    pub fn new(sheet: &'a Sheet, title: &'a str, schedule: &'a Schedule, cycle: Sum) -> Layout<'a> {
         let line = Timeline::new(schedule);
         let waymarks = waymarks(line.width());
         let lane_height = if waymarks.is_empty() { 26.0 } else { 36.0 };
@@ -52,6 +54,7 @@ impl<'a> Layout<'a> {
             sheet,
             title,
             schedule,
+            cycle,
             line,
             left: MARGIN,
             strip: HEAD,

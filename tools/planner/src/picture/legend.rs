@@ -4,7 +4,6 @@ use super::layout::{Layout, MARGIN};
 use super::letters::{cut, label, Anchor, Label, Look};
 use super::svg::Svg;
 use crate::fraction::{decimal, fraction};
-use crate::schedule::sum;
 
 /// A longer title is cut; the whole one is the title of the file.
 const TITLE: usize = 90;
@@ -24,7 +23,7 @@ enum Sign {
 
 /// What the cycle takes, costs and earns.
 fn second_line(layout: &Layout) -> String {
-    let (line, sum) = (&layout.line, sum(&layout.schedule.cycle));
+    let (line, sum) = (&layout.line, layout.cycle);
     let [cost, reward] = [sum.cost, sum.reward].map(i128::from);
     let ratio = match reward {
         0 => "none".to_string(),

@@ -13,7 +13,7 @@ mod parts;
 mod svg;
 mod timeline;
 
-use crate::schedule::Schedule;
+use crate::schedule::{Schedule, Sum};
 use crate::sheet::Sheet;
 use layout::{Layout, MARGIN};
 pub use letters::{Anchor, Label, Look};
@@ -26,8 +26,8 @@ fn all_labels(layout: &Layout) -> Vec<Label> {
 }
 
 /// The texts of the chart with their places.
-pub fn labels(sheet: &Sheet, title: &str, schedule: &Schedule) -> Vec<Label> {
-    all_labels(&Layout::new(sheet, title, schedule))
+pub fn labels(sheet: &Sheet, title: &str, schedule: &Schedule, cycle: Sum) -> Vec<Label> {
+    all_labels(&Layout::new(sheet, title, schedule, cycle))
 }
 
 /// The size that holds all texts and the lanes.
@@ -38,9 +38,10 @@ fn size(layout: &Layout, labels: &[Label]) -> (f64, f64) {
     ((right + MARGIN).ceil(), (below + MARGIN).ceil())
 }
 
-/// The schedule as an SVG file: a lane for each location, and below it each clock under its bound.
-pub fn chart(sheet: &Sheet, title: &str, schedule: &Schedule) -> String {
-    let layout = Layout::new(sheet, title, schedule);
+/// The schedule as an SVG file: a lane for each location, and below it each clock under its bound. The second line tells what the cycle
+/// takes, costs and earns.
+pub fn chart(sheet: &Sheet, title: &str, schedule: &Schedule, cycle: Sum) -> String {
+    let layout = Layout::new(sheet, title, schedule, cycle);
     let labels = all_labels(&layout);
     let (width, height) = size(&layout, &labels);
     let mut svg = Svg::new(width, height, title);

@@ -3,7 +3,6 @@
 use super::layout::Layout;
 use super::letters::{label, Anchor, Label, Look};
 use super::svg::Svg;
-use crate::schedule::sum;
 
 const SIZE: f64 = 12.0;
 const ROW: f64 = 17.0;
@@ -21,7 +20,7 @@ struct Part {
 
 fn parts(layout: &Layout) -> Vec<Part> {
     let line = &layout.line;
-    let (end, last) = (line.stays.len(), sum(&layout.schedule.cycle).time);
+    let (end, last) = (line.stays.len(), layout.cycle.time);
     let part = |words: String, from: usize, to: usize, look, shade, bar| {
         (from < to).then(|| Part { words, from: line.begin(from), to: line.begin(to), look, shade, bar })
     };

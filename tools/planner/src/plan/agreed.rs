@@ -7,19 +7,19 @@ use crate::stop::Stop;
 
 /// Whether a row begins when the replay does, takes as long, and costs and earns as much.
 fn agrees(row: &Row, before: Sum, after: Sum) -> bool {
-    let took = (after.time - before.time, after.cost - before.cost, after.reward - before.reward);
-    row.at == before.time && (row.wait, row.cost, row.reward) == took
+    let took = Sum { time: row.wait, cost: row.cost, reward: row.reward };
+    row.at == before.time && took == after - before
 }
 
-/// What the cycle of a schedule costs and earns, by replay. It has to earn.
+/// What the cycle of a schedule takes, costs and earns, by replay. It has to earn.
 pub fn earning(sheet: &Sheet, schedule: &Schedule) -> Result<Loop, Stop> {
     match agreed(sheet, schedule)? {
-        around if around.reward > 0 => Ok(around),
+        around if around.sum.reward > 0 => Ok(around),
         around => Err(Stop::Difference(format!("the cycle of the schedule has {around}, and earns nothing"))),
     }
 }
 
-/// What the cycle of a schedule costs and earns, by replay.
+/// What the cycle of a schedule takes, costs and earns, by replay.
 pub fn agreed(sheet: &Sheet, schedule: &Schedule) -> Result<Loop, Stop> {
     let replayed = replay(sheet, &of_schedule(schedule))
         .map_err(|wrong| Stop::Difference(format!("row {} of the schedule: {}", 1 + wrong.place / 2, wrong.fault)))?;
@@ -44,7 +44,7 @@ mod tests {
         let sheet = parse(text).expect("a sheet");
         let visits = [Visit { wait: 1, edge: 0 }, Visit { wait: 2, edge: 0 }];
         let schedule = of_waits(&sheet, 1, &visits[..1], &visits[1..]);
-        assert_eq!(agreed(&sheet, &schedule), Ok(Loop { nths: 1, cost: 11, reward: 4 }));
+        assert_eq!(agreed(&sheet, &schedule), Ok(Loop { nths: 1, sum: Sum { time: 2, cost: 11, reward: 4 } }));
         assert_eq!(earning(&sheet, &schedule), agreed(&sheet, &schedule));
         let idle = parse(&text.replace("  reward 1\n", "").replace("  reward 2\n", "")).expect("a sheet");
         let around = earning(&idle, &of_waits(&idle, 1, &visits[..1], &visits[1..]));

@@ -13,18 +13,15 @@ pub struct Corners {
     pub nodes: Vec<u32>,
 }
 
-/// Waits before edges, and where each edge is taken: a unit of delay adds 1 to the wait, a move takes no time.
+/// Waits before edges, and where each edge is taken: a wait is the units that the steps before the edge take.
 fn visits(codes: &[u16], walk: &Walk) -> (Vec<Visit>, Vec<u32>) {
     let (mut visits, mut nodes, mut wait) = (Vec::new(), Vec::new(), 0);
-    for (code, node) in codes.iter().zip(&walk.nodes) {
-        match *code {
-            planner::UNIT => wait += 1,
-            planner::MOVE => {}
-            edge => {
-                visits.push(Visit { wait, edge: usize::from(edge) });
-                nodes.push(*node);
-                wait = 0;
-            }
+    for ((code, node), units) in codes.iter().zip(&walk.nodes).zip(&walk.units) {
+        wait += units;
+        if *code < planner::UNIT {
+            visits.push(Visit { wait, edge: usize::from(*code) });
+            nodes.push(*node);
+            wait = 0;
         }
     }
     (visits, nodes)

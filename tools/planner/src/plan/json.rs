@@ -1,10 +1,11 @@
 //! The answer as a line of JSON. Its form is written down in README.md beside the sources.
 
 use super::{Gain, Outcome, Planned, Standing};
+use crate::certificate::Certificate;
 use crate::fraction::decimal;
 use crate::input::Held;
 use crate::json::{list, string, Object};
-use crate::schedule::{sum, Row, Schedule};
+use crate::schedule::{sum, Row, Schedule, Sum};
 use crate::sheet::Sheet;
 
 fn ratio(upper: i64, lower: i64) -> String {
@@ -19,15 +20,19 @@ fn row(sheet: &Sheet, row: &Row) -> String {
     object.value("cost", row.cost).value("reward", row.reward).end()
 }
 
-fn part(sheet: &Sheet, rows: &[Row]) -> String {
-    let sum = sum(rows);
+fn part(sheet: &Sheet, rows: &[Row], sum: Sum) -> String {
     let object = Object::new().value("time", sum.time).value("cost", sum.cost).value("reward", sum.reward);
     object.value("rows", list(rows.iter().map(|found| row(sheet, found)))).end()
 }
 
-fn parts(object: Object, sheet: &Sheet, schedule: &Schedule) -> String {
-    let object = object.value("nths", schedule.nths);
-    object.value("stem", part(sheet, &schedule.stem)).value("cycle", part(sheet, &schedule.cycle)).end()
+fn parts(object: Object, sheet: &Sheet, schedule: &Schedule, cycle: Sum) -> String {
+    let object = object.value("nths", schedule.nths).value("stem", part(sheet, &schedule.stem, sum(&schedule.stem)));
+    object.value("cycle", part(sheet, &schedule.cycle, cycle)).end()
+}
+
+/// What the plan's cycle takes, costs and earns.
+fn cycle(sum: Sum) -> String {
+    Object::new().value("units", sum.time).value("cost", sum.cost).value("reward", sum.reward).end()
 }
 
 fn or_null(number: Option<i64>) -> String {
@@ -37,17 +42,17 @@ fn or_null(number: Option<i64>) -> String {
 fn schedule(sheet: &Sheet, planned: &Planned) -> String {
     let (kind, basis) = match planned.standing {
         Standing::Work => ("attained", "proved"),
-        Standing::Exact => ("attained", "replayed"),
+        Standing::Exact | Standing::Inside => ("attained", "replayed"),
         Standing::Near => ("near", "replayed"),
         Standing::Corners(..) => ("corners", "replayed"),
     };
     let object = Object::new().text("is", kind).text("rests_on", basis);
-    let object = object.value("ratio", ratio(planned.replayed.cost, planned.replayed.reward));
+    let object = object.value("ratio", ratio(planned.replayed.sum.cost, planned.replayed.sum.reward));
     let object = match planned.standing {
         Standing::Corners(_, least) => object.value("least_nths", or_null(least)),
         _ => object,
     };
-    parts(object, sheet, &planned.schedule)
+    parts(object, sheet, &planned.schedule, planned.cycle())
 }
 
 /// The object, without a line end.
@@ -57,8 +62,9 @@ pub fn json(held: &Held, outcome: &Outcome) -> String {
     let object = Object::new().text("file", held.name());
     match outcome {
         Outcome::Planned(planned) => {
-            let object = object.text("answer", "planned").value("ratio", ratio(planned.plan.p, planned.plan.q));
-            object.value("nodes", planned.plan.nodes.len()).value("schedule", schedule(sheet, planned)).end()
+            let Certificate { p, q, nodes, .. } = &planned.plan.certificate;
+            let object = object.text("answer", "planned").value("ratio", ratio(*p, *q)).value("nodes", nodes.len());
+            object.value("cycle", cycle(planned.plan.cycle)).value("schedule", schedule(sheet, planned)).end()
         }
         Outcome::Coarse { asked, least } => object.text("answer", "no run").value("nths", asked).value("least_nths", or_null(*least)).end(),
         Outcome::Refused { refusal, why, gain } => {
@@ -67,7 +73,7 @@ pub fn json(held: &Held, outcome: &Outcome) -> String {
             match gain {
                 Some(Gain { schedule, no_run }) => {
                     let kind = Object::new().text("is", if no_run.is_none() { "run" } else { "corners" });
-                    object.value("loop", parts(kind, sheet, schedule)).end()
+                    object.value("loop", parts(kind, sheet, schedule, sum(&schedule.cycle))).end()
                 }
                 None => object.end(),
             }

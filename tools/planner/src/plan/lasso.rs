@@ -1,6 +1,8 @@
 //! The lasso of a plan, stepped by the proved step and summed.
 
+use super::Plan;
 use crate::certificate::Certificate;
+use crate::schedule::Sum;
 use crate::stop::Stop;
 use crate::walk::{walk, Stuck, Walk};
 
@@ -10,22 +12,32 @@ pub fn stepped(bytes: &[u8], from: u32, codes: &[u16]) -> Result<Walk, Stop> {
         .map_err(|Stuck { node, code, refusal, .. }| Stop::Difference(format!("code {code} of the lasso at node {node} is {refusal}")))
 }
 
-/// The stem and the cycle of a plan: that they walk, close, earn and have the ratio.
-pub fn examined(plan: &Certificate) -> Result<(), Stop> {
+/// A cycle that is the plan's own takes, costs and earns, in nths, what the library answers.
+pub fn adds_up(plan: &Plan, what: &str, nths: i64, found: Sum) -> Result<(), Stop> {
+    if found == plan.cycle.times(nths) {
+        return Ok(());
+    }
+    let (found, told) = (found.words(nths), plan.cycle.words(1));
+    Err(Stop::Difference(format!("the cycle of the {what} {found}, and the library answers that it {told}")))
+}
+
+/// The stem and the cycle of a plan: that they walk, close, earn and have the ratio, and that the cycle has the sums of the answer.
+pub fn examined(plan: &Plan) -> Result<(), Stop> {
     let differs = |what: String| Err(Stop::Difference(what));
-    let stem = stepped(&plan.sheet, 0, &plan.stem)?;
-    let cycle = stepped(&plan.sheet, stem.end, &plan.cycle)?;
+    let Certificate { sheet, p, q, nodes, .. } = &plan.certificate;
+    let stem = stepped(sheet, 0, &plan.certificate.stem)?;
+    let cycle = stepped(sheet, stem.end, &plan.certificate.cycle)?;
     if cycle.end != stem.end {
         return differs(format!("the cycle of the lasso begins at node {} and ends at {}", stem.end, cycle.end));
     }
-    if let Some(node) = stem.nodes.iter().chain(&cycle.nodes).find(|node| plan.nodes.binary_search(node).is_err()) {
+    if let Some(node) = stem.nodes.iter().chain(&cycle.nodes).find(|node| nodes.binary_search(node).is_err()) {
         return differs(format!("node {node} of the lasso is not among the nodes of the plan"));
     }
-    let (cost, reward) = (i128::from(cycle.cost), i128::from(cycle.reward));
-    if reward <= 0 || i128::from(plan.q) * cost != i128::from(plan.p) * reward {
-        return differs(format!("the cycle costs {cost} and earns {reward}, and the ratio is {}/{}", plan.p, plan.q));
+    let (cost, reward) = (i128::from(cycle.sum.cost), i128::from(cycle.sum.reward));
+    if reward <= 0 || i128::from(*q) * cost != i128::from(*p) * reward {
+        return differs(format!("the cycle costs {cost} and earns {reward}, and the ratio is {p}/{q}"));
     }
-    Ok(())
+    adds_up(plan, "lasso", 1, cycle.sum)
 }
 
 /// The cycle turned to begin just after its first edge, the stem grown by what comes before.

@@ -14,7 +14,7 @@ pub mod text;
 use crate::certificate::Certificate;
 use crate::input::Held;
 use crate::run::{Loop, NotAllowed};
-use crate::schedule::Schedule;
+use crate::schedule::{Schedule, Sum};
 use crate::stop::Stop;
 use planner::{Planner, WorkPlanner};
 
@@ -39,14 +39,31 @@ impl From<NotAllowed> for NoRun {
     }
 }
 
+/// A plan as the library answers it.
+#[derive(Clone, Debug, PartialEq, Eq)]
+pub struct Plan {
+    pub certificate: Certificate,
+    /// What its cycle takes, costs and earns, in whole units.
+    pub cycle: Sum,
+}
+
+impl Plan {
+    fn of(sheet: &[u8], plan: &planner::Plan) -> Plan {
+        let cycle = Sum { time: plan.units, cost: plan.cost, reward: plan.reward };
+        Plan { certificate: Certificate::of(sheet, plan), cycle }
+    }
+}
+
 /// What the schedule that is shown is.
 #[derive(Clone, Debug, PartialEq, Eq)]
 pub enum Standing {
     /// The work plan of a sheet with nothing strict: it attains the ratio by a theorem.
     Work,
-    /// A run that attains the ratio although something is strict.
+    /// The corner points, which are a run although something is strict.
     Exact,
-    /// A run in nths along the regions of the lasso that comes near the ratio.
+    /// Another run, in nths along the regions of the lasso, that attains the ratio.
+    Inside,
+    /// Such a run that comes near the ratio.
     Near,
     /// The corner points, which are no run; and the least nths in which there is one, up to the finest.
     Corners(NoRun, Option<i64>),
@@ -54,11 +71,26 @@ pub enum Standing {
 
 #[derive(Debug)]
 pub struct Planned {
-    pub plan: Certificate,
+    pub plan: Plan,
     pub schedule: Schedule,
     pub standing: Standing,
-    /// What the cycle of the schedule costs and earns, by replay.
+    /// What the cycle of the schedule takes, costs and earns, by replay.
     pub replayed: Loop,
+}
+
+impl Planned {
+    /// Whether the schedule is the plan's own lasso.
+    pub fn is_own(&self) -> bool {
+        matches!(self.standing, Standing::Work | Standing::Exact | Standing::Corners(..))
+    }
+
+    /// What its cycle takes, costs and earns, in nths: as the library answers where it is the plan's own, and by replay otherwise.
+    pub fn cycle(&self) -> Sum {
+        match self.is_own() {
+            true => self.plan.cycle.times(self.schedule.nths),
+            false => self.replayed.sum,
+        }
+    }
 }
 
 /// A loop that makes money without reward, and why its corner points are no run where they are none.
@@ -91,7 +123,7 @@ pub fn planned(buffers: &mut Buffers, held: &Held, finer: Option<i64>) -> Result
         Held::Sheet(source) => match buffers.plans.plan(&source.bytes) {
             Err(refusal) => refused::no_plan(source, refusal),
             Ok(plan) => {
-                let plan = Certificate::of(&source.bytes, &plan);
+                let plan = Plan::of(&source.bytes, &plan);
                 lasso::examined(&plan)?;
                 accepted::accepted(buffers, source, plan, finer)
             }

@@ -38,7 +38,7 @@ pub fn no_plan(source: &Source, refusal: planner::Refusal) -> Result<Outcome, St
 fn replayed_gain(sheet: &Sheet, schedule: Schedule) -> Result<Gain, Stop> {
     let no_run = replay(sheet, &of_schedule(&schedule)).err().map(NoRun::from);
     let around = agreed(&sheet.closed(), &schedule)?;
-    if around.cost >= 0 || around.reward != 0 {
+    if around.sum.cost >= 0 || around.sum.reward != 0 {
         return Err(Stop::Difference(format!("the replay of a loop that makes money has {around}")));
     }
     Ok(Gain { schedule, no_run })

@@ -1,21 +1,31 @@
 //! The answer as it is read.
 
 use super::table::table;
-use super::{Gain, NoRun, Outcome, Planned, Standing};
+use super::{Gain, NoRun, Outcome, Plan, Planned, Standing};
 use crate::fraction::{about, counted, fraction};
 use crate::input::Held;
 use crate::run::FINEST;
-use crate::schedule::{sum, Row, Schedule, Sum};
+use crate::schedule::{sum, Row};
 use crate::sheet::Sheet;
 
-/// What the rows of a schedule and their sums rest on.
+/// What the rows of a schedule and the sums of its stem rest on.
 fn basis(standing: &Standing) -> &'static str {
     match standing {
-        Standing::Work | Standing::Exact | Standing::Near => REPLAY,
+        Standing::Work | Standing::Exact | Standing::Inside | Standing::Near => REPLAY,
         Standing::Corners(..) => CLOSED_REPLAY,
     }
 }
 
+/// What the sums of its cycle rest on: the answer too where it is the plan's own.
+fn cycle_basis(planned: &Planned) -> String {
+    let replay = basis(&planned.standing);
+    match planned.is_own() {
+        true => format!("{PROVED}, and {replay}"),
+        false => replay.to_string(),
+    }
+}
+
+const PROVED: &str = "proved";
 const REPLAY: &str = "checked by replay";
 const CLOSED_REPLAY: &str = "checked by replay, with each bound and guard taken as one that may be reached";
 const SEARCH: &str = "by the tool's own search";
@@ -29,8 +39,8 @@ fn multiples(n: i64) -> String {
 
 /// How far a run in nths is from the ratio.
 fn near(planned: &Planned) -> String {
-    let Planned { plan, replayed, .. } = planned;
-    let [p, q, cost, reward] = [plan.p, plan.q, replayed.cost, replayed.reward].map(i128::from);
+    let Planned { plan: Plan { certificate, .. }, replayed, .. } = planned;
+    let [p, q, cost, reward] = [certificate.p, certificate.q, replayed.sum.cost, replayed.sum.reward].map(i128::from);
     let (own, own_about, above) = (fraction(cost, reward), about(cost, reward), fraction(cost * q - p * reward, reward * q));
     let waits = multiples(replayed.nths);
     format!("approached: the cycle below waits in {waits} and has {own}, {own_about}, which is {above} more ({REPLAY})\n")
@@ -44,15 +54,24 @@ fn served(least: Option<i64>) -> String {
     }
 }
 
+/// A run that attains the ratio.
+fn exact(planned: &Planned) -> String {
+    let waits = multiples(planned.schedule.nths);
+    format!("attained by the cycle below, which waits in {waits} and keeps the strict bounds and guards ({REPLAY})\n")
+}
+
+/// The plan's own cycle, where another one is shown.
+fn corner_cycle(planned: &Planned) -> String {
+    format!("the plan's cycle of corner points {} ({PROVED})\n", planned.plan.cycle.words(1))
+}
+
 /// Whether the schedule that is shown attains the ratio.
 fn attained(planned: &Planned) -> String {
     match &planned.standing {
-        Standing::Work => "attained by the cycle below: no bound and no guard of the sheet is strict (proved)\n".to_string(),
-        Standing::Exact => {
-            let waits = multiples(planned.schedule.nths);
-            format!("attained by the cycle below, which waits in {waits} and keeps the strict bounds and guards ({REPLAY})\n")
-        }
-        Standing::Near => near(planned),
+        Standing::Work => format!("attained by the cycle below: no bound and no guard of the sheet is strict ({PROVED})\n"),
+        Standing::Exact => exact(planned),
+        Standing::Inside => exact(planned) + &corner_cycle(planned),
+        Standing::Near => near(planned) + &corner_cycle(planned),
         Standing::Corners(NoRun { row, what }, least) => {
             let runs = match least {
                 Some(_) => "approached by runs in nths along the same regions: ",
@@ -63,36 +82,31 @@ fn attained(planned: &Planned) -> String {
     }
 }
 
-fn sums(sum: Sum, nths: i64) -> String {
-    let [time, cost, reward] = [sum.time, sum.cost, sum.reward].map(|count| fraction(count.into(), nths.into()));
-    format!("takes {time}, costs {cost}, earns {reward}")
+/// A part of a schedule: its rows, and below them its sums with what these rest on.
+fn part(head: &str, rows: &str, sums: &str, basis: &str) -> String {
+    format!("\n{head}:\n{rows}  {sums} ({basis})\n")
 }
 
-fn part(sheet: &Sheet, planned: &Planned, head: &str, rows: &[Row], all: &[Row]) -> String {
-    let (nths, basis) = (planned.schedule.nths, basis(&planned.standing));
-    let sums = sums(sum(rows), nths);
-    format!("\n{head}:\n{}  {sums} ({basis})\n", table(sheet, nths, rows, all))
-}
-
-/// How often a cycle comes round.
-fn period(schedule: &Schedule) -> String {
-    match sum(&schedule.cycle).time {
+/// How often a cycle comes round that takes so many nths.
+fn period(time: i64, nths: i64) -> String {
+    match time {
         0 => "cycle, repeating, in no time".to_string(),
-        time => format!("cycle, repeating every {}", fraction(time.into(), schedule.nths.into())),
+        time => format!("cycle, repeating every {}", fraction(time.into(), nths.into())),
     }
 }
 
 fn planned_text(sheet: &Sheet, name: &str, planned: &Planned) -> String {
-    let Planned { plan, schedule, .. } = planned;
+    let Planned { plan: Plan { certificate, .. }, schedule, .. } = planned;
     let all: Vec<Row> = schedule.rows().cloned().collect();
-    let (p, q) = (plan.p, plan.q);
+    let table = |rows: &[Row]| table(sheet, schedule.nths, rows, &all);
+    let (p, q) = (certificate.p, certificate.q);
     let mut text = format!("{name}: planned\n\n");
-    text += &format!("ratio {p}/{q}, {}: no repeating schedule costs less per reward (proved)\n", about(p.into(), q.into()));
+    text += &format!("ratio {p}/{q}, {}: no repeating schedule costs less per reward ({PROVED})\n", about(p.into(), q.into()));
     text += &attained(planned);
-    text += &format!("nodes {} of 2,048: all that can be reached (proved)\n", counted(plan.nodes.len()));
-    text += &part(sheet, planned, "stem, once", &schedule.stem, &all);
-    text += &part(sheet, planned, &period(schedule), &schedule.cycle, &all);
-    text
+    text += &format!("nodes {} of 2,048: all that can be reached ({PROVED})\n", counted(certificate.nodes.len()));
+    text += &part("stem, once", &table(&schedule.stem), &sum(&schedule.stem).words(schedule.nths), basis(&planned.standing));
+    let (nths, cycle) = (schedule.nths, planned.cycle());
+    text + &part(&period(cycle.time, nths), &table(&schedule.cycle), &cycle.words(nths), &cycle_basis(planned))
 }
 
 /// The loop of refusal 14, step by step.
@@ -106,7 +120,7 @@ fn gain_text(sheet: &Sheet, gain: &Gain) -> String {
         }
     };
     for (head, rows) in [("the way to it", &schedule.stem), ("the loop", &schedule.cycle)] {
-        text += &format!("\n{head}:\n{}  {} ({basis})\n", table(sheet, 1, rows, &all), sums(sum(rows), 1));
+        text += &part(head, &table(sheet, 1, rows, &all), &sum(rows).words(1), basis);
     }
     text
 }

@@ -2,15 +2,8 @@
 
 use super::search::Graph;
 use crate::nodes::Arc;
+use crate::schedule::Sum;
 use crate::walk::walk;
-
-/// What one round of a cycle costs and earns, and how many units it takes.
-#[derive(Clone, Copy, Debug, PartialEq, Eq)]
-pub struct Round {
-    pub cost: i64,
-    pub reward: i64,
-    pub units: usize,
-}
 
 /// The codes of the walk, and those of the loop.
 pub fn gain(graph: &Graph) -> Option<(Vec<u16>, Vec<u16>)> {
@@ -92,16 +85,16 @@ fn back_from(last: &[Option<Arc>], place: usize) -> Vec<Arc> {
     cycle
 }
 
-/// What a round is, by stepping; none where a step is not allowed, or the cycle does not close or meets a node twice before it does.
-pub fn round(bytes: &[u8], stem: &[u16], cycle: &[u16]) -> Option<Round> {
+/// What a round takes, costs and earns, by stepping; none where a step is not allowed, or the cycle does not close or meets a node twice
+/// before it does.
+pub fn round(bytes: &[u8], stem: &[u16], cycle: &[u16]) -> Option<Sum> {
     let start = walk(bytes, 0, stem).ok()?.end;
     let walked = walk(bytes, start, cycle).ok()?;
     let mut met = walked.nodes.clone();
     met.sort_unstable();
     met.dedup();
-    let units = cycle.iter().filter(|code| **code == planner::UNIT).count();
     let closes = walked.end == start && met.len() == cycle.len();
-    closes.then_some(Round { cost: walked.cost, reward: walked.reward, units })
+    closes.then_some(walked.sum)
 }
 
 #[cfg(test)]
@@ -114,8 +107,9 @@ mod tests {
     #[test]
     fn a_round_is_a_simple_cycle() {
         let once = [33, 32, 33, 0];
-        assert_eq!(round(&BENCH, &[], &once), Some(Round { cost: 6, reward: 2, units: 1 }));
-        assert_eq!(round(&BENCH, &[33], &[32, 33, 0, 33]), Some(Round { cost: 6, reward: 2, units: 1 }));
+        let sum = Sum { time: 1, cost: 6, reward: 2 };
+        assert_eq!(round(&BENCH, &[], &once), Some(sum));
+        assert_eq!(round(&BENCH, &[33], &[32, 33, 0, 33]), Some(sum));
         assert_eq!(round(&BENCH, &[], &[once, once].concat()), None, "it meets nodes twice");
         assert_eq!(round(&BENCH, &[], &once[..3]), None, "it does not close");
         assert_eq!(round(&BENCH, &[], &[0]), None, "it is not allowed");

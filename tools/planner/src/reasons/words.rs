@@ -74,8 +74,8 @@ fn rewards(sheet: &Sheet, reached: &[usize], never: &[(usize, String)]) -> Vec<S
 fn gain_words(sheet: &Sheet, stem: &[u16], cycle: &[u16]) -> Vec<String> {
     let mut lines = vec![format!("a loop that earns nothing makes money; found {SEARCH}")];
     if let Some(round) = round(&encode(sheet), stem, cycle) {
-        let units = if round.units == 1 { "unit" } else { "units" };
-        lines.push(format!("one round costs {}, earns {} and takes {} {units} of time", round.cost, round.reward, round.units));
+        let units = if round.time == 1 { "unit" } else { "units" };
+        lines.push(format!("one round costs {}, earns {} and takes {} {units} of time", round.cost, round.reward, round.time));
     }
     lines.push("with each round before it a cycle that earns may get cheaper, so that no ratio need be the least".to_string());
     lines

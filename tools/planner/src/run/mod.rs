@@ -26,12 +26,11 @@ pub struct Run {
     pub before: usize,
 }
 
-/// What the loop costs and earns, in nths.
+/// What the loop takes, costs and earns, in nths.
 #[derive(Clone, Copy, Debug, PartialEq, Eq)]
 pub struct Loop {
     pub nths: i64,
-    pub cost: i64,
-    pub reward: i64,
+    pub sum: Sum,
 }
 
 /// A run that was replayed: its loop, and what had passed before each member and at the end.
@@ -43,7 +42,7 @@ pub struct Replayed {
 
 impl std::fmt::Display for Loop {
     fn fmt(&self, f: &mut std::fmt::Formatter) -> std::fmt::Result {
-        let [n, cost, reward] = [self.nths, self.cost, self.reward].map(i128::from);
+        let [n, cost, reward] = [self.nths, self.sum.cost, self.sum.reward].map(i128::from);
         let ratio = if reward == 0 { "none".to_string() } else { fraction(cost, reward) };
         write!(f, "cost {}, reward {}, ratio {ratio}", fraction(cost, n), fraction(reward, n))
     }
@@ -90,8 +89,8 @@ pub fn replay(sheet: &Sheet, run: &Run) -> Result<Replayed, NotAllowed> {
         let fault = fault("the run does not come back to where its loop began", "equal location and clock values at both ends");
         return fault.map_err(|fault| NotAllowed { place: run.members.len(), fault });
     }
-    let (before, end) = (passed[run.before], replay.passed);
-    Ok(Replayed { around: Loop { nths: run.nths, cost: end.cost - before.cost, reward: end.reward - before.reward }, passed })
+    let around = Loop { nths: run.nths, sum: replay.passed - passed[run.before] };
+    Ok(Replayed { around, passed })
 }
 
 /// The run that a schedule is.
@@ -194,6 +193,6 @@ mod tests {
     fn an_empty_loop_is_none() {
         let back = "the run does not come back to where its loop began; expected equal location and clock values at both ends";
         assert_eq!(answer(&[Member::Edge(0)], 1), Err(back.to_string()));
-        assert_eq!(answer(&[Member::Edge(0)], 0), Ok(Loop { nths: 1, cost: 0, reward: 0 }));
+        assert_eq!(answer(&[Member::Edge(0)], 0), Ok(Loop { nths: 1, sum: Sum::default() }));
     }
 }

@@ -1,5 +1,5 @@
 -- The lasso is laid out, and the three buffers are written.
-use mathlib.Core.Path.{_≡_, _∙_}
+use mathlib.Core.Path.{_≡_, refl, _∙_}
 use mathlib.Core.List.{List}
 use Prim.Native.Nat.{ℕ, _+_, _≤_}
 use native.Mathlib.Omega.{arith}
@@ -13,12 +13,16 @@ use Rattle.contract.specs.Plan.{Buffers}
 use Rattle.planner.specs.ContractTerms.{lentBuffers}
 use Rattle.planner.proofs.AcceptLaws.{Written, accepted-planned}
 use Rattle.planner.proofs.GraphLaws.{settled-planned}
-use Rattle.planner.proofs.LassoLaws.{short, codes-pickable, never, laid-of}
+use Rattle.planner.proofs.LassoLaws.{short, codes-pickable, arcs-summable, never, laid-of}
 use borrow.Author.Needs.{needs}
 use Rattle.planner.proofs.graphs.accept.Statement.{statement}
 use Rattle.planner.proofs.graphs.accept.Tie as tie
 
 -- ---- the places, from the end to the start
+
+-- before the sums
+abbrev W : tie.After-sums-of → tie.After-slice-known5
+W c = c .before .before
 
 -- after the steps are written
 abbrev E : tie.After-slice-known5 → tie.After-encode
@@ -36,7 +40,7 @@ abbrev L : tie.After-laid → tie.After-lasso-of
 L c = c .before .before .before
 
 abbrev S : tie.After-lasso-of → tie.Start
-S c = c .before .before .before .before .before .before .before .before .before .before
+S c = c .before .before .before .before .before .before .before .before .before .before .before
 
 -- ---- the lasso
 
@@ -112,20 +116,20 @@ encode-requires c κs =
 clear-u16-requires : tie.Need-clear-u16-requires
 clear-u16-requires c κs = search needs
 
+slice-aggregate-sums-of : tie.Need-slice-aggregate-sums-of
+slice-aggregate-sums-of c = search needs
+
+sums-of-requires : tie.Need-sums-of-requires
+sums-of-requires c κs =
+    let v = K (P (E (c .before) .before)) in
+    let s = S (L v) in
+    arcs-summable (s .pre .0) (sized (L v)) (laid v) (omega arith) refl
+
 accepted-requires : tie.Need-accepted-requires
 accepted-requires c κs =
-    let v = K (P (E c .before)) in
+    let v = K (P (E (W c) .before)) in
     let s = S (L v) in
     (s .pre .1 .1 .0, (s .pre .0 .formed .few, few v))
-
-same-length : tie.Need-same-length
-same-length c = search needs
-
-same-length-2 : tie.Need-same-length-2
-same-length-2 c = search needs
-
-same-length-3 : tie.Need-same-length-3
-same-length-3 c = search needs
 
 -- ---- what stands in the buffers at the end
 
@@ -135,19 +139,21 @@ lent-to s = lentBuffers (now (s .args .nodes)) (now (s .args .potentials)) (now 
 
 abbrev left : tie.After-accepted → Buffers
 left c =
-    let e = E (c .before) in
-    lentBuffers (P (e .before) .before .before .before .before .clear-u32 .last .0) (e .before .before .before .before .clear-i64 .last .0) (c .before .before .before .clear-u16 .last .0)
+    let w = W (c .before) in
+    let e = E w in
+    lentBuffers (P (e .before) .before .before .before .before .clear-u32 .last .0) (e .before .before .before .before .clear-i64 .last .0) (w .before .before .clear-u16 .last .0)
 
-written : (c : tie.After-accepted) → let v = K (P (E (c .before) .before)) in let s = S (L v) in
+written : (c : tie.After-accepted) → let v = K (P (E (W (c .before)) .before)) in let s = S (L v) in
     Written (now (s .args .least)) (now (s .args .order)) (now (s .args .code)) (arcs (L v)) (s .args .n) (v .laid .given .0 .0 + s .args .k) (lent-to s) (left c)
 written c =
-    let e = E (c .before) in
+    let w = W (c .before) in
+    let e = E w in
     let p = P (e .before) in
     let v = K p in
     let s = S (L v) in
     let N = p .before .before .before .before .clear-u32 .ensures in
     let D = e .before .before .before .before .clear-i64 .ensures in
-    let C = c .before .before .before .clear-u16 .ensures in
+    let C = w .before .before .clear-u16 .ensures in
     let n = s .pre .0 .formed .few in
     record {
       potentials = λ i h. front-stays _ _ _ D i (omega (arith, n)) ∙ p .permute .ensures .is i (omega (arith, n));
@@ -159,11 +165,20 @@ written c =
       lengths = record { nodes = length-stays _ _ _ N; potentials = length-stays _ _ _ D ∙ p .permute .ensures .sized; steps = length-stays _ _ _ C ∙ e .encode .ensures .sized };
     }
 
+same-length : tie.Need-same-length
+same-length c = written c .lengths .nodes
+
+same-length-2 : tie.Need-same-length-2
+same-length-2 c = written c .lengths .potentials
+
+same-length-3 : tie.Need-same-length-3
+same-length-3 c = written c .lengths .steps
+
 returns-2 : tie.Need-returns-2
 returns-2 c =
-    let v = K (P (E (c .before) .before)) in
+    let v = K (P (E (W (c .before)) .before)) in
     let s = S (L v) in
-    λ o. settled-planned (accepted-planned (s .pre .0) (sized (L v)) (laid v) (written c) o (toZ-ofZ w64 (s .args .p) (s .fits .p)) (c .accepted .ensures))
+    λ o. settled-planned (accepted-planned (s .pre .0) (sized (L v)) (laid v) (written c) o (toZ-ofZ w64 (s .args .p) (s .fits .p)) refl (c .before .sums-of .ensures) (c .accepted .ensures))
 
 pub accept-spec : {M : Type 1} → statement M
 accept-spec =
@@ -182,6 +197,8 @@ accept-spec =
     slice-aggregate-encode
     encode-requires
     clear-u16-requires
+    slice-aggregate-sums-of
+    sums-of-requires
     accepted-requires
     same-length
     same-length-2

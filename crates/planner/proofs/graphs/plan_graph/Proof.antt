@@ -117,8 +117,6 @@ returns-3 c =
     let g = v .verdict .given in
     let l = L v in
     λ o. a .accept .ensures (record {
-      cost = now (S l .args .cost);
-      reward = now (S l .args .reward);
       of-sheet = o;
       potential = _;
       arcs = _;

@@ -1,5 +1,5 @@
 -- Question 12, and the plan of the graph, with its lists cut to the arcs.
-use mathlib.Core.Path.{refl, sym}
+use mathlib.Core.Path.{refl, sym, _∙_}
 use Prim.Native.Nat.{ℕ, _≤_}
 use native.Mathlib.Omega.{arith}
 use denote.Ref.{now}
@@ -193,7 +193,9 @@ returns c =
     (overfull (S x .args .read) (now (S x .args .nodes)) (B x) (x .explore .result) (told x) (c .before .enum-told .given .1) o))
 
 same-length-2 : tie.Need-same-length-2
-same-length-2 c = search needs
+same-length-2 c =
+    let g = c .before .before .before .before .before in
+    g .plan-graph .kept .1 .1 .1 .1 .1 .1 .1 .1 .0 ∙ same (X (K (g .before))) .nodes
 
 same-length-3 : tie.Need-same-length-3
 same-length-3 c = search needs

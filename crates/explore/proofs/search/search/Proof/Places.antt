@@ -118,7 +118,7 @@ module _ (c : tie.After-step-at Inv-loop μ-loop) where
   abbrev pub t : ℕ
   t = L c .loop .t
 
-  pub told : c .step-at .result ≡ answered (stepRead sheet (at (here (L c) .node) (t / 34)) (t % 34))
+  pub told : c .step-at .result ≡ answered (t % 34) (stepRead sheet (at (here (L c) .node) (t / 34)) (t % 34))
   told =
       let l = L c in
       let b = l .before .by-byte in
