@@ -63,7 +63,8 @@ sed 's/when x >= 1/when x > 1/; s/^  cost 1$//' sheets/bench.txt >"$work/free.tx
 ends "attained in halves" 0 planner plan "$work/free.txt"
 holds "attained in halves" "$(cat "$work/out")" "attained by the cycle below, which waits in multiples of 1/2 and keeps the strict bounds and guards (checked by replay)"
 
-# what a cycle takes, costs and earns, and what that rests on: the answer where the plan's cycle is shown, else both
+# what a cycle takes, costs and earns, and what that rests on: the answer and the replay where the plan's cycle is shown;
+# else the plan's by the answer in a line of its own, and the shown one by replay
 # shown_cycle WHAT LINES WORDS..: these lines of the plan, its cycle's head and last line among them
 shown_cycle() {
   ends "$1: its cycle" 0 planner plan "${@:3}"

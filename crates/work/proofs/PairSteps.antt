@@ -1,4 +1,4 @@
--- The loop that writes pairs, a code a turn: what is still to be writtenFrom is all that is to be written.
+-- The loop that writes pairs, a code a turn: what is written and what is still to be written make up all that is to be written.
 use mathlib.Core.Path.{_≡_, refl, sym, ap, _∙_, subst}
 use mathlib.Core.Logic.{_≢_}
 use mathlib.Core.Bool.{Bool, cond}

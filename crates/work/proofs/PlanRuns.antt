@@ -1,4 +1,4 @@
--- An accepted plan without strict bounds, read as a work plan: the pairs of its lasso are runs with n = 1, and the cycle takes, costs and earns
+-- An accepted plan of a sheet with nothing strict, read as a work plan: the pairs of its lasso are runs with n = 1, and the cycle takes, costs and earns
 -- what the plan tells.
 use mathlib.Core.Path.{_≡_, sym, _∙_}
 use mathlib.Core.Bool.{true}

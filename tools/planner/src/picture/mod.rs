@@ -38,8 +38,8 @@ fn size(layout: &Layout, labels: &[Label]) -> (f64, f64) {
     ((right + MARGIN).ceil(), (below + MARGIN).ceil())
 }
 
-/// The schedule as an SVG file: a lane for each location, and below it each clock under its bound. The second line tells what the cycle
-/// takes, costs and earns.
+/// The schedule as an SVG file: a lane for each location, and below it each clock under its bound. Its words tell what the cycle takes,
+/// costs and earns.
 pub fn chart(sheet: &Sheet, title: &str, schedule: &Schedule, cycle: Sum) -> String {
     let layout = Layout::new(sheet, title, schedule, cycle);
     let labels = all_labels(&layout);

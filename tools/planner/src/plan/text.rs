@@ -55,7 +55,7 @@ fn served(least: Option<i64>) -> String {
 }
 
 /// A run that attains the ratio.
-fn exact(planned: &Planned) -> String {
+fn by_run(planned: &Planned) -> String {
     let waits = multiples(planned.schedule.nths);
     format!("attained by the cycle below, which waits in {waits} and keeps the strict bounds and guards ({REPLAY})\n")
 }
@@ -69,8 +69,8 @@ fn corner_cycle(planned: &Planned) -> String {
 fn attained(planned: &Planned) -> String {
     match &planned.standing {
         Standing::Work => format!("attained by the cycle below: no bound and no guard of the sheet is strict ({PROVED})\n"),
-        Standing::Exact => exact(planned),
-        Standing::Inside => exact(planned) + &corner_cycle(planned),
+        Standing::Exact => by_run(planned),
+        Standing::Inside => by_run(planned) + &corner_cycle(planned),
         Standing::Near => near(planned) + &corner_cycle(planned),
         Standing::Corners(NoRun { row, what }, least) => {
             let runs = match least {
