@@ -115,7 +115,9 @@ uint8_t planner_step(const uint8_t *sheet, size_t sheet_length, uint32_t node, u
  *
  * The least ratio of cost over reward of a cycle that earns is p / q; the lasso goes from the start,
  * and its cycle earns and has that ratio. The potential of a node is the least weight of a walk to
- * it from the start, where a step weighs q times its cost minus p times its reward.
+ * it from the start, where a step weighs q times its cost minus p times its reward. No run weighs
+ * less than the smallest of the n potentials, wherever it breaks off and in whatever fractions of a
+ * unit it waits: q times its cost minus p times its reward is at least that, which is 0 or less.
  *
  * What stands in the buffers afterwards:
  *     accepted (0)      n entries of nodes and potentials, s + m of steps, and 0 from there to the end

@@ -10,9 +10,10 @@ for jobs in 1 2 16; do
   planner batch sheets --jobs $jobs 2>/dev/null | cmp -s - "$work/out" || fail "$jobs jobs: other lines"
 done
 
-# each line is what `plan --json` prints
-for file in sheets/bench.txt sheets/feed-in.txt; do
-  grep -qxF "$(planner plan "$file" --json)" "$work/out" || fail "$file: another line than plan --json"
+# each line is what `plan --json` prints, but for the run that undercuts the ratio, which a batch does not search for
+for file in sheets/bench.txt sheets/production.txt sheets/feed-in.txt; do
+  alone=$(planner plan "$file" --json | sed 's/\("undercut":{[^{}]*\),"run":.*/\1}}/' || true)
+  grep -qxF "$alone" "$work/out" || fail "$file: another line than plan --json"
 done
 
 # what is faulty does not stop the others

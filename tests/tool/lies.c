@@ -32,6 +32,15 @@ uint8_t planner_step(const uint8_t *sheet, size_t sheet_length, uint32_t node, u
     return refusal;
 }
 
+/* The smallest potential, wherever it stands, one lower. */
+static void lower_smallest(int64_t *potentials, int64_t n) {
+    int64_t smallest = potentials[0];
+    for (int64_t i = 0; i < n; i++)
+        smallest = potentials[i] < smallest ? potentials[i] : smallest;
+    for (int64_t i = 0; i < n; i++)
+        potentials[i] -= potentials[i] == smallest;
+}
+
 uint8_t planner_plan(const uint8_t *sheet, size_t sheet_length, uint32_t *nodes, size_t nodes_length,
                      int64_t *potentials, size_t potentials_length, uint16_t *steps, size_t steps_length, int64_t *p,
                      int64_t *q, int64_t *n, int64_t *s, int64_t *m, int64_t *units, int64_t *cost, int64_t *reward) {
@@ -55,6 +64,11 @@ uint8_t planner_plan(const uint8_t *sheet, size_t sheet_length, uint32_t *nodes,
         *cost = *p;
     if (lies("earned"))
         *reward = *q;
+    if (lies("smallest"))
+        lower_smallest(potentials, *n);
+    if (lies("potentials"))
+        for (int64_t i = 0; i < *n; i++)
+            potentials[i] -= 1;
     return refusal;
 }
 

@@ -4,7 +4,7 @@ for file in sheets/*.txt; do
   case $(line answer "$file") in refused*) continue ;; esac
   ends "$file charted" 0 planner plan "$file" --svg "$work/chart.svg"
   expect "$file: the last line" "$(tail -1 "$work/out")" "chart: $work/chart.svg"
-  for edge in $(sed -n '/^cycle,/,$p' "$work/out" | awk 'NF == 6 && $1 != "at" { print $4 }'); do
+  for edge in $(sed -n '/^cycle,/,/^$/p' "$work/out" | awk 'NF == 6 && $1 != "at" { print $4 }'); do
     grep -q ">$edge\\(<\\|:\\| \\)" "$work/chart.svg" || fail "$file: edge $edge is not in its chart"
   done
   for location in $(sed -n 's/^location //p' "$file"); do
@@ -24,7 +24,7 @@ for name in $(sed -n 's/^edge \([^:]*\):.*/\1/p; s/^location //p' sheets/product
   grep -q "$name" "$work/out" || fail "drawn: $name is missing"
 done
 # the cycle is in bold; of a refused sheet nothing is
-cycle=$(planner plan sheets/production.txt | sed -n '/^cycle,/,$p' | awk 'NF == 6 && $1 != "at" { print $4 }')
+cycle=$(planner plan sheets/production.txt | sed -n '/^cycle,/,/^$/p' | awk 'NF == 6 && $1 != "at" { print $4 }')
 for edge in $cycle; do
   grep -q "label=\"$edge\\\\n.*penwidth=2.5" "$work/out" || fail "drawn: $edge is not in bold"
 done

@@ -28,6 +28,7 @@ for file in sheets/*.txt; do
     read -r _ p q _ _ nodes <<<"$answer"
     holds "$file: the ratio" "$(cat "$work/out")" "ratio $p/$q, "
     holds "$file: the nodes" "$(cat "$work/out")" "nodes $(printf "%'d" "$nodes" | sed 's/^\([0-9]\)\([0-9]\{3\}\)$/\1,\2/') of 2,048"
+    expect "$file: the undercut" "$(grep -c '^undercut .* (proved)' "$work/out")" 1
     ;;
   esac
   sed 1d "$work/out" >"$work/plan"
@@ -86,6 +87,28 @@ cycle, repeating every 3/2:
 holds "a work plan: its cycle, JSON" "$(planner plan sheets/bench.txt --json --nths 3)" '"nodes":7,"cycle":{"units":1,"cost":6,"reward":2},"schedule":{'
 holds "corner points: their cycle, JSON" "$(planner plan sheets/beacon.txt --json)" '"cycle":{"units":3,"cost":8,"reward":4},"schedule":{"is":"corners",'
 holds "in tenths: the plan's cycle, JSON" "$(planner plan sheets/beacon.txt --json --nths 10)" '"cycle":{"units":3,"cost":8,"reward":4},"schedule":{"is":"near",'
+
+# the run that undercuts the ratio most, in whole units whatever --nths says; where its bound is strict none is known
+# breaks_off WHAT LINES WORDS..: the line of the undercut and the run
+breaks_off() {
+  ends "$1" 0 planner plan "${@:3}"
+  expect "$1" "$(sed -n '/^undercut /p; /^run, broken off:/,$p' "$work/out")" "$2"
+}
+most="wherever a run breaks off, it costs at most so much less than the ratio times its reward (proved)"
+sampled="undercut 9: $most; the run broken off below costs exactly so much less (checked by replay)
+run, broken off:
+  at  wait  in           then        cost  reward
+   0     2  measuring    sample         5       6
+   2     2  measuring    sample         5       6
+   4     2  measuring    sample         5       6
+  takes 6, costs 15, earns 18: 9 less than the ratio times its reward (checked by replay)"
+breaks_off "a run that breaks off" "$sampled" sheets/sampler.txt
+breaks_off "a run that breaks off, in halves" "$sampled" sheets/sampler.txt --nths 2
+sed 's/^  cost 1$/  reward 1/; s/x <= 2/x < 2/' sheets/bench.txt >"$work/short.txt"
+unknown="no run in whole units costs exactly so much less (by the tool's own search), and whether one in nths does is not known"
+breaks_off "no run that breaks off" "undercut 5/2, exactly 2.5: $most; $unknown" "$work/short.txt"
+holds "a run that breaks off, JSON" "$(planner plan sheets/sampler.txt --json)" '"undercut":{"p":9,"q":1,"about":9.0000,"run":{"time":6,"cost":15,"reward":18,"rows":[{'
+holds "nothing undercut, JSON" "$(planner plan sheets/bench.txt --json)" '"undercut":{"p":0,"q":1,"about":0.0000,"run":null}}'
 
 # the loop of 14 where its corner points are no run
 cat >"$work/gain.txt" <<'END'

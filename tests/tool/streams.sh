@@ -41,7 +41,8 @@ expect "a refused sheet: told" "$(cat "$work/err")" "$work/none.svg: not written
 ends "no output" 4 bash -c 'planner plan sheets/bench.txt 1</dev/null'
 ends "no output, batch" 4 bash -c 'planner batch sheets 1</dev/null'
 planner plan sheets/bench.txt --certificate "$work/plain" >/dev/null
-ends "a pipe by its descriptor" 0 bash -c "planner plan sheets/bench.txt --certificate /proc/self/fd/9 9> >(cat >'$work/piped'); wait \$!"
+# opened by the shell itself, so that it knows the reader and can wait for it
+ends "a pipe by its descriptor" 0 bash -c "exec 9> >(cat >'$work/piped'); planner plan sheets/bench.txt --certificate /proc/self/fd/9; status=\$?; exec 9>&-; wait \$!; exit \$status"
 cmp -s "$work/plain" "$work/piped" || fail "a pipe by its descriptor: other bytes"
 
 # a closed pipe ends the tool quietly; the reader has gone when the tool begins

@@ -22,7 +22,8 @@ pub struct Plan<'a> {
     /// The numbers of the reachable nodes, rising.
     pub nodes: &'a [u32],
     /// Their potentials, in the same order: the least weight of a walk from the start, where a step
-    /// weighs q times its cost minus p times its reward.
+    /// weighs q times its cost minus p times its reward. No run weighs less than the smallest of
+    /// them, wherever it breaks off and in whatever fractions of a unit it waits.
     pub potentials: &'a [i64],
     /// The codes of the steps that lead from the start to the cycle.
     pub stem: &'a [u16],

@@ -1,22 +1,21 @@
--- The comparison theorem: with a feasible potential no loop of a run in nths is below the ratio, and a run that does not come back
--- is below it by no more than the least potential.
+-- The comparison theorem: with a feasible potential no loop of a run in nths is below the ratio, and no run at all, whether it comes back or not,
+-- by more than the smallest potential.
 use mathlib.Core.Path.{_≡_, sym, ap, _∙_, subst}
 use mathlib.Core.List.{List}
-use mathlib.Core.Option.{some}
 use Prim.Native.Nat.{ℕ, zero, suc, _≤_, _<_}
 use native.Mathlib.Omega.{arith}
-use lib.IntN.{ℤ, pos, _*ℤ_}
+use lib.IntN.{ℤ, pos}
 use lib.ListN.{take}
 use lib.Seq.{slice}
 use lib.Signed.{_≤ℤ_}
 use Rattle.automaton.specs.Automaton.{Automaton}
-use Rattle.automaton.specs.Priced.{Priced}
 use Rattle.automaton.specs.Nodes.{Node, startNode}
 use Rattle.automaton.specs.Steps.{step}
 use Rattle.automaton.specs.Walks.{Reachable}
 use Rattle.automaton.specs.Weights.{weight, Feasible}
-use Rattle.automaton.specs.Runs.{State, Member, run, startState}
+use Rattle.automaton.specs.Runs.{State, Member, startState}
 use Rattle.automaton.specs.Loops.{Loop, NoLoopBelow}
+use Rattle.automaton.specs.RunWeights.{NoRunBelow}
 use Rattle.automaton.proofs.Thresholds.{nodeAt, start-node}
 use Rattle.automaton.proofs.Falls.{Falls, falls-loop, falls-least, sum-zero, sum-least}
 use Rattle.automaton.proofs.Weights.{weight-ratio}
@@ -39,12 +38,11 @@ module _ (A : Automaton) (few : A .edges ≤ 32) (p : ℤ) (q : ℕ) (π : Node 
   unfolding NoLoopBelow
   no-loop-below n h members c r l = weight-ratio p q c r .0 (loop-weighs n h members c r l)
 
-  -- The companion for every run, whether it comes back or not: its cost and reward are told times n, so its weight is at least n times the least potential.
-  pub run-weighs : (m : ℤ) → ((u : Node) → Reachable (step A) (startNode A) u → m ≤ℤ π u) → π (startNode A) ≡ pos 0
-      → (n : ℕ) → 0 < n → (members : List Member) (x : Priced State) → run A n (startState A) members ≡ some x
-      → (pos n *ℤ m) ≤ℤ weight p q (x .cost) (x .reward)
-  run-weighs m least begins zero h members x e = absurd (omega arith)
-  run-weighs m least begins (suc n) h members x e = falls-least (passes .falls begun)
+  -- the companion for every run, whether it comes back or not
+  pub no-run-below : (m : ℤ) → ((u : Node) → Reachable (step A) (startNode A) u → m ≤ℤ π u) → π (startNode A) ≡ pos 0 → NoRunBelow A p q m
+  unfolding NoRunBelow
+  no-run-below m least begins zero h members x e = absurd (omega arith)
+  no-run-below m least begins (suc n) h members x e = falls-least (passes .falls begun)
       (unfold Φ in sum-zero (suc n) (λ t. π (nodeAt (suc n) (startState A) t)) (λ t. ap π (start-node A (suc n) t) ∙ begins))
       (unfold Φ in sum-least (suc n) (λ t. π (nodeAt (suc n) (x .to) t)) m (λ t k. least (nodeAt (suc n) (x .to) t) (passes .covers begun .node t k)))
     where

@@ -19,4 +19,5 @@ pub mod Potentials
 pub mod Covers
 pub mod Places
 pub mod Comparison
+pub mod RunWeights
 pub mod Computes

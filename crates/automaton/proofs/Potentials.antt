@@ -6,11 +6,11 @@ use Prim.Native.Nat.{ℕ, _+_}
 use native.Mathlib.Omega.{arith}
 use lib.IntN.{ℤ, pos, _+ℤ_, _*ℤ_}
 use lib.Signed.{_≤ℤ_}
-use Rattle.integers.proofs.Parts.{ext, le-of, le-parts}
+use Rattle.integers.proofs.Parts.{up, dn, ext, le-of, le-parts}
 use Rattle.automaton.specs.Priced.{Priced}
 use Rattle.automaton.specs.Walks.{Walk, Reachable, ReachableCycle}
 use Rattle.automaton.specs.Weights.{weight, Feasible, Potential}
-use Rattle.automaton.proofs.Walks.{walk-one, walk-append, walk-holds, reach-start, reach-step}
+use Rattle.automaton.proofs.Walks.{walk-nil, walk-one, walk-append, walk-holds, reach-start, reach-step}
 use Rattle.automaton.proofs.Weights.{weight-zero, weight-+, weight-ratio}
 use Rattle.automaton.proofs.Falls.{Falls, falls-refl, falls-chain, falls-loop, falls-least}
 
@@ -75,3 +75,14 @@ module _ {S : Type 0} (step : S → ℕ → Option (Priced S)) (start : S) where
       least-feasible = record {
         holds = λ u code x h e. onward u (x .to) (code ∷ []) (x .cost) (x .reward) h (reach-step step start u code x h e) (walk-one step u code x e);
       }
+
+      -- that of the start is 0: no walk back to it weighs less, and the empty one weighs so much
+      pub least-start : π start ≡ pos 0
+      least-start = let a = least start (reach-start step start) in ext (π start) (pos 0) (omega (
+        arith,
+        le-parts (π start) (weight p q (pos 0) 0) (a .least [] (pos 0) 0 (walk-nil step start)),
+        ap up (weight-zero p q),
+        ap dn (weight-zero p q),
+        le-parts (pos 0) (π start) (subst (λ (z : ℤ). pos 0 ≤ℤ z) (a .attained)
+            (falls-loop (leads-walk p q π least-feasible (a .walk) .falls (reach-start step start)))),
+      ))

@@ -10,4 +10,5 @@ pub mod Runs
 pub mod Times
 pub mod Loops
 pub mod Weights
+pub mod RunWeights
 pub mod Ratios

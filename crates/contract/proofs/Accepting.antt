@@ -9,24 +9,15 @@ use lib.ListN.{length}
 use Rattle.integers.proofs.Pigeonhole.{onto}
 use Rattle.automaton.specs.Priced.{Priced}
 use Rattle.automaton.specs.Walks.{Reachable}
-use Rattle.automaton.specs.Weights.{Feasible}
-use Rattle.automaton.specs.Weights as Steps
 use Rattle.automaton.proofs.Tests.{by-order}
-use Rattle.automaton.proofs.Potentials.{least-feasible}
 use Rattle.walks.specs.Walk.{at, atℤ}
 use Rattle.walks.specs.Weight.{LeastWeight, PotentialOrMark}
 use Rattle.walks.proofs.Weights.{least-of}
-use Rattle.contract.specs.Accepted.{NodeList, PotentialList}
+use Rattle.contract.specs.Accepted.{Listed, NodeList, PotentialList}
 use Rattle.contract.specs.Explored.{Found, Explored, Sorted}
-use Rattle.contract.specs.Certificate.{indexOf}
 use Rattle.contract.proofs.Checklist.{weightAt}
-use Rattle.contract.proofs.Indices.{first-at}
 use Rattle.contract.proofs.Arcs.{listed, all-reached}
 use Rattle.contract.proofs.Searches.{potential}
-
--- the potential of a number
-abbrev pub ϕ : Found → List ℤ → ℕ → ℤ
-ϕ g D z = atℤ D (indexOf (g .node) z)
 
 module _ {step : ℕ → ℕ → Option (Priced ℕ)} {start : ℕ} {g : Found} (x : Explored step start g) where
   -- ---- the order of output
@@ -35,13 +26,18 @@ module _ {step : ℕ → ℕ → Option (Priced ℕ)} {start : ℕ} {g : Found} 
     order-one i j hi hj e = let s : at nodes i ≡ at nodes j = sorted .is i hi ∙ ap (at (g .node)) e ∙ sym (sorted .is j hj) in
         by-order i j (λ h. absurd (omega (arith, sorted .rising i j h hj))) (λ e. e) (λ h. absurd (omega (arith, sorted .rising j i h hi)))
 
+    -- each reachable number stands in the list
+    pub complete : (z : ℕ) → Reachable step start z → Listed nodes (g .n) z
+    complete z r =
+        let k = listed x z r in
+        let a = onto (at order) (g .n) (k .index) order-one (sorted .below) (k .below) in
+        record { index = a .place; below = a .below; is = sorted .is (a .place) (a .below) ∙ ap (at (g .node)) (a .is) ∙ k .is }
+
     pub node-list : ((i : ℕ) → g .n ≤ i → i < length nodes → at nodes i ≡ 0) → NodeList step start (g .n) nodes
     node-list rest = record {
       rising = sorted .rising;
       reachable = λ i h. subst (Reachable step start) (sym (sorted .is i h)) (x .reachable (at order i) (sorted .below i h));
-      complete = λ z r. (let k = listed x z r in
-          let a = onto (at order) (g .n) (k .index) order-one (sorted .below) (k .below) in
-          record { index = a .place; below = a .below; is = sorted .is (a .place) (a .below) ∙ ap (at (g .node)) (a .is) ∙ k .is });
+      complete = complete;
       rest = rest;
     }
 
@@ -60,14 +56,3 @@ module _ {step : ℕ → ℕ → Option (Priced ℕ)} {start : ℕ} {g : Found} 
       small = λ i h. rw (are i h) (least (at order i) (sorted .below i h) .1);
       rest = rest;
     }
-
-    ϕ-least : (z : ℕ) → Reachable step start z → Steps.Potential step start p q z (ϕ g D z)
-    ϕ-least z r =
-        let k = listed x z r in
-        let f = first-at (g .node) z (k .index) (k .is) in
-        let l : indexOf (g .node) z < g .n = omega (arith, f .first, k .below) in
-        subst (λ (u : ℕ). Steps.Potential step start p q u (ϕ g D z)) (f .is)
-        (potential x p q (indexOf (g .node) z) (ϕ g D z) l (least (indexOf (g .node) z) l .0))
-
-    pub feasible : Feasible step start p q (ϕ g D)
-    feasible = least-feasible step start p q (ϕ g D) ϕ-least

@@ -8,16 +8,17 @@ use native.Mathlib.Omega.{arith}
 use lib.IntN.{ℤ, pos}
 use lib.ListN.{length, length-replicate}
 use Rattle.automaton.specs.Priced.{Priced}
-use Rattle.automaton.specs.Walks.{ReachableCycle}
+use Rattle.automaton.specs.Walks.{Reachable, ReachableCycle}
 use Rattle.automaton.specs.Weights.{Feasible}
 use Rattle.automaton.proofs.Ratios.{least-ratio}
 use Rattle.sheet.specs.Questions.{checkOf}
 use Rattle.nodes.specs.Meaning.{meaning, layoutOf}
-use Rattle.nodes.proofs.NumberLaws.{no-loop-below-numbers}
+use Rattle.nodes.proofs.NumberLaws.{no-loop-below-numbers, no-run-below-numbers}
 use Rattle.nodes.proofs.CheckedLaws.{sound, room}
 use Rattle.walks.specs.Cycles.{EarningArcs, NoneEarns, IdleGainArcs}
 use Rattle.contract.specs.Questions.{TooMany, too-many, none-earns, idle-gain, all-yes}
-use Rattle.contract.specs.Accepted.{Accepted}
+use Rattle.contract.specs.Accepted.{Listed, NodeList, PotentialList, Accepted}
+use Rattle.contract.specs.Smallest.{smallestPotential}
 use Rattle.contract.specs.Plan.{refusedPlan, Buffers, zeros, LongEnough, SameLengths, Passed, stepOn, startOf, Judged, too-short, faulty, explored, Planned}
 use Rattle.contract.specs.Explored.{Found, Explored, Overfull}
 use Rattle.contract.proofs.Checklist.{InHand}
@@ -26,6 +27,7 @@ use Rattle.contract.proofs.Arcs as Arcs
 use Rattle.contract.proofs.Searches as Searches
 use Rattle.contract.proofs.Feasible.{no-idle-gain}
 use Rattle.contract.proofs.Lassos as Lassos
+use Rattle.contract.proofs.ListedPotentials as Beside
 use Rattle.contract.proofs.Accepting as Accepting
 
 same-lengths : (b : Buffers) → SameLengths b b
@@ -48,6 +50,7 @@ left-alone bytes b r some failed j = record {
   lengths = same-lengths b;
   accepted = λ e. absurd (omega arith);
   no-loop-below = λ e. absurd (omega arith);
+  no-run-below = λ e. absurd (omega arith);
 }
 
 -- an explored sheet that is refused: every entry is 0
@@ -60,6 +63,7 @@ set-to-zero bytes b r some passed j = record {
   lengths = zero-lengths b;
   accepted = λ e. absurd (omega arith);
   no-loop-below = λ e. absurd (omega arith);
+  no-run-below = λ e. absurd (omega arith);
 }
 
 module _ (bytes : List ℕ) (b : Buffers) where
@@ -112,8 +116,24 @@ module _ (bytes : List ℕ) (before after : Buffers) (g : Found) (p : ℤ) (q : 
   short : length stem + length cycle ≤ g .n
   short = Lassos.short x stem cycle (h .lasso)
 
-  feasible : Feasible step start p q (Accepting.ϕ g D)
-  feasible = Accepting.feasible x p q D (h .potentials)
+  complete : (z : ℕ) → Reachable step start z → Listed (after .nodes) (g .n) z
+  complete = Accepting.complete x order (after .nodes) (h .sorted)
+
+  node-list : NodeList step start (g .n) (after .nodes)
+  node-list = Accepting.node-list x order (after .nodes) (h .sorted) (h .nodes-rest)
+
+  potential-list : PotentialList step start p q (g .n) (after .nodes) (after .potentials)
+  potential-list = Accepting.potential-list x p q D (h .potentials) order (after .nodes) (h .sorted) (after .potentials) (h .permuted) (h .potentials-rest)
+
+  -- the potential of a number
+  abbrev π : ℕ → ℤ
+  π = Beside.beside (after .nodes) (after .potentials)
+
+  feasible : Feasible step start p q π
+  feasible = Beside.feasible complete potential-list
+
+  potentials-room : g .n ≤ length (after .potentials)
+  potentials-room = omega (arith, x .few, h .long .potentials, h .lengths .potentials)
 
   steps-room : length stem + length cycle ≤ length (after .steps)
   steps-room = omega (arith, short, x .few, h .long .steps, h .lengths .steps)
@@ -121,10 +141,9 @@ module _ (bytes : List ℕ) (before after : Buffers) (g : Found) (p : ℤ) (q : 
   plan-accepted : Accepted step start p q (g .n) (length stem) (length cycle) (Arcs.unitsOver g cycle) (Arcs.costOf g cycle) (Arcs.rewardOf g cycle)
       (after .nodes) (after .potentials) (after .steps)
   plan-accepted = record {
-    ratio = least-ratio step start p q (Accepting.ϕ g D) feasible (h .lowest) (Arcs.costOf g cycle) (Arcs.rewardOf g cycle) reachable-cycle (h .earns) (h .exact);
-    node-list = Accepting.node-list x order (after .nodes) (h .sorted) (h .nodes-rest);
-    potential-list = Accepting.potential-list x p q D (h .potentials) order (after .nodes) (h .sorted)
-        (after .potentials) (h .permuted) (h .potentials-rest);
+    ratio = least-ratio step start p q π feasible (h .lowest) (Arcs.costOf g cycle) (Arcs.rewardOf g cycle) reachable-cycle (h .earns) (h .exact);
+    node-list = node-list;
+    potential-list = potential-list;
     lasso = Lassos.lasso-steps x stem cycle (h .lasso) (after .steps) steps-room (h .codes) p q (h .earns) (h .exact) (h .steps-rest);
     sums = Lassos.lasso-sums x stem cycle (h .lasso) (after .steps) steps-room (h .codes) p q (h .earns) (h .exact) (h .steps-rest);
     short = short;
@@ -145,12 +164,14 @@ module _ (bytes : List ℕ) (before after : Buffers) (g : Found) (p : ℤ) (q : 
     judged = explored (h .long) (h .checked) (all-yes refl
         (Counts.few-listed step start (g .node) (g .n) (x .few) (Arcs.listed x))
         (record { cost = Arcs.costOf g cycle; reward = Arcs.rewardOf g cycle; cycle = reachable-cycle; earns = h .earns })
-        (no-idle-gain step start p q (h .lowest .positive) (Accepting.ϕ g D) feasible));
+        (no-idle-gain step start p q (h .lowest .positive) π feasible));
     numbers = λ k. absurd (omega arith);
     kept = λ k. absurd (k (h .long, h .checked));
     cleared = λ k l. absurd (omega arith);
     lengths = h .lengths;
     accepted = λ e. plan-accepted;
-    no-loop-below = λ e. no-loop-below-numbers (layoutOf bytes) (meaning bytes) (room bytes (h .checked)) (sound bytes (h .checked)) p q
-        (Accepting.ϕ g D) feasible;
+    no-loop-below = λ e. no-loop-below-numbers (layoutOf bytes) (meaning bytes) (room bytes (h .checked)) (sound bytes (h .checked)) p q π feasible;
+    no-run-below = λ e. no-run-below-numbers (layoutOf bytes) (meaning bytes) (room bytes (h .checked)) (sound bytes (h .checked)) p q π feasible
+        (smallestPotential (g .n) (after .potentials)) (Beside.smallest-below complete potential-list potentials-room)
+        (Beside.start-zero complete potential-list);
   }

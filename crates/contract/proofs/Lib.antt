@@ -1,5 +1,7 @@
 pub mod Checklist
 pub mod Indices
+pub mod Smallest
+pub mod ListedPotentials
 pub mod Arcs
 pub mod Counts
 pub mod Searches

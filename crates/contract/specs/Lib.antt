@@ -1,5 +1,6 @@
 pub mod Questions
 pub mod Accepted
+pub mod Smallest
 pub mod Plan
 pub mod Conditions
 pub mod OnNodes

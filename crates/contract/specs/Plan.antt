@@ -8,11 +8,13 @@ use lib.IntN.{ℤ, pos}
 use lib.ListN.{length, replicate}
 use Rattle.automaton.specs.Priced.{Priced}
 use Rattle.automaton.specs.Loops.{NoLoopBelow}
+use Rattle.automaton.specs.RunWeights.{NoRunBelow}
 use Rattle.sheet.specs.Questions.{checkOf}
 use Rattle.nodes.specs.Numbers.{stepBy, startNumber}
 use Rattle.nodes.specs.Meaning.{meaning, layoutOf}
 use Rattle.contract.specs.Questions.{Verdict}
 use Rattle.contract.specs.Accepted.{Accepted}
+use Rattle.contract.specs.Smallest.{smallestPotential}
 
 -- the answer: the refusal, the ratio p/q, n reachable nodes, a stem of s steps and a cycle of m, and that cycle's units, cost and reward
 pub record Answer : Type 0 where
@@ -86,3 +88,5 @@ pub record Planned (bytes : List ℕ) (before after : Buffers) (a : Answer) : Ty
       (after .nodes) (after .potentials) (after .steps)
   -- demand 3, over all runs in nths
   pub no-loop-below : a .refusal ≡ 0 → NoLoopBelow (meaning bytes) (a .p) (a .q)
+  -- and beside it, of all runs in nths, "repeating or not": they weigh no less than "the smallest potential reported", both sides told times n
+  pub no-run-below : a .refusal ≡ 0 → NoRunBelow (meaning bytes) (a .p) (a .q) (smallestPotential (a .n) (after .potentials))

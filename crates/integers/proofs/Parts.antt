@@ -112,6 +112,9 @@ lt-parts (pos a) (negsuc b) h = absurd (h .lt)
 lt-parts (negsuc a) (pos b) h = omega arith
 lt-parts (negsuc a) (negsuc b) h = omega (arith, ltb→lt b a (h .lt))
 
+pub le-chain : (x y z : ℤ) → x ≤ℤ y → y ≤ℤ z → x ≤ℤ z
+le-chain x y z h k = le-of x z (omega (arith, le-parts x y h, le-parts y z k))
+
 -- ---- tests, as the code makes them
 
 no : {X : Type 0} → false ≡ true → X

@@ -4,7 +4,7 @@ use Prim.Native.Nat.{ℕ, suc, _+_, _*_, _≤_, _<_}
 use native.Mathlib.Omega.{arith}
 use native.Mathlib.Nat.{mul-zero, mul-add, mul-suc, mul-left-comm, mul-le-mul-left}
 use native.Mathlib.Decide.{decLe}
-use lib.IntN.{ℤ, pos, negsuc, negℤ, natAbs, _+ℤ_, _*ℤ_, sucℤ-*ℤ}
+use lib.IntN.{ℤ, pos, negsuc, negℤ, natAbs, _+ℤ_, _*ℤ_, +ℤ-idl, zero-*ℤ, sucℤ-*ℤ}
 use lib.Signed.{_≤ℤ_}
 use Rattle.integers.proofs.Parts.{up, dn, abs-parts, add-parts, mul-parts, neg-up, neg-dn, ext, le-of, le-parts}
 
@@ -34,6 +34,9 @@ dn-times n (negsuc m) = neg-dn (pos (n * suc m))
 
 pub times-suc : (n : ℕ) (c : ℤ) → pos (suc n) *ℤ c ≡ pos n *ℤ c +ℤ c
 times-suc n c = sucℤ-*ℤ (pos n) c
+
+pub one-times : (z : ℤ) → pos 1 *ℤ z ≡ z
+one-times z = times-suc 0 z ∙ ap (λ (y : ℤ). y +ℤ z) (zero-*ℤ z) ∙ +ℤ-idl z
 
 pub times-swap : (a b : ℕ) (z : ℤ) → pos a *ℤ (pos b *ℤ z) ≡ pos b *ℤ (pos a *ℤ z)
 times-swap a b z = ext (pos a *ℤ (pos b *ℤ z)) (pos b *ℤ (pos a *ℤ z)) (omega (

@@ -6,7 +6,7 @@ use Prim.Native.Nat.{ℕ, _^_, _≤_, _<_}
 use native.Mathlib.Omega.{arith}
 use borrow.Author.Tests.{eqb-true, eq-eqb}
 use lib.Dec.{eqb}
-use lib.IntN.{ℤ, pos, _*ℤ_}
+use lib.IntN.{ℤ, pos}
 use lib.Signed.{_≤ℤ_}
 use mathlib.Core.List.{List}
 use Rattle.automaton.specs.Automaton.{Automaton}
@@ -14,14 +14,14 @@ use Rattle.automaton.specs.Priced.{Priced}
 use Rattle.automaton.specs.Nodes.{Node, isNode, startNode, Sound}
 use Rattle.automaton.specs.Steps.{step}
 use Rattle.automaton.specs.Walks.{Walk, Reachable, ReachableCycle}
-use Rattle.automaton.specs.Weights.{weight, Feasible, Potential}
-use Rattle.automaton.specs.Runs.{State, Member, run, startState}
+use Rattle.automaton.specs.Weights.{Feasible, Potential}
 use Rattle.automaton.specs.Loops.{NoLoopBelow}
+use Rattle.automaton.specs.RunWeights.{NoRunBelow}
 use Rattle.automaton.proofs.Tests.{&&-left, &&-right, &&-intro}
 use Rattle.automaton.proofs.Codes.{unit-or-move}
 use Rattle.automaton.proofs.Nodes.{Proper, proper-of, class-small, corner-small, whole-small}
 use Rattle.automaton.proofs.Reached.{start-is-node, step-to-node}
-use Rattle.automaton.proofs.Comparison.{no-loop-below, run-weighs}
+use Rattle.automaton.proofs.Comparison.{no-loop-below, no-run-below}
 use Rattle.nodes.specs.Numbers.{Layout, classAt, number, nodeOf, isNumber, stepBy, startNumber}
 use Rattle.nodes.proofs.Packing.{Fits, unpacked}
 use Rattle.nodes.proofs.Carried.{named, named-some, Source, Back, walk-named, walk-back, reach-named, reach-back, cycle-named, cycle-back, feasible-back, potential-back}
@@ -138,9 +138,8 @@ module _ (y : Layout) (A : Automaton) (room : Room y A) where
       pub no-loop-below-numbers : NoLoopBelow A p q
       no-loop-below-numbers = no-loop-below A (sound .few-edges) p q (λ u. π (number y u)) node-feasible
 
-      -- and for runs that do not come back
-      pub run-weighs-numbers : (m : ℤ) → ((x : ℕ) → Reachable (stepBy y A) (startNumber y A) x → m ≤ℤ π x) → π (startNumber y A) ≡ pos 0
-          → (n : ℕ) → 0 < n → (members : List Member) (x : Priced State) → run A n (startState A) members ≡ some x
-          → (pos n *ℤ m) ≤ℤ weight p q (x .cost) (x .reward)
-      run-weighs-numbers m least start =
-          run-weighs A (sound .few-edges) p q (λ u. π (number y u)) node-feasible m (λ u r. least (number y u) (number-reached r)) start
+      -- and for every run, whether it comes back or not
+      pub no-run-below-numbers : (m : ℤ) → ((x : ℕ) → Reachable (stepBy y A) (startNumber y A) x → m ≤ℤ π x) → π (startNumber y A) ≡ pos 0
+          → NoRunBelow A p q m
+      no-run-below-numbers m least start =
+          no-run-below A (sound .few-edges) p q (λ u. π (number y u)) node-feasible m (λ u r. least (number y u) (number-reached r)) start

@@ -65,6 +65,7 @@ refused-planned e j passed zero same some = rw e record {
   lengths = same;
   accepted = λ z. absurd (omega arith);
   no-loop-below = λ z. absurd (omega arith);
+  no-run-below = λ z. absurd (omega arith);
 }
 
 module _ {F T C : List ℕ} {Z : List ℤ} {R order tree : List ℕ} {n : ℕ} (h : Handed F T C Z R order tree n) (D : List ℤ) (cycle : List ℕ) (W : RatioAnswer)

@@ -7,8 +7,8 @@ use native.Mathlib.Nat.{one-mul, zero-mul}
 use native.Mathlib.Omega.{arith}
 use borrow.Author.Tests.{ltb-true}
 use lib.Dec.{ltb, eqb}
-use lib.IntN.{ℤ, pos, _+ℤ_, _*ℤ_, +ℤ-idl, zero-*ℤ}
-use Rattle.integers.proofs.Products.{times-suc}
+use lib.IntN.{ℤ, pos, _*ℤ_, zero-*ℤ}
+use Rattle.integers.proofs.Products.{one-times}
 use Rattle.automaton.specs.Bounds.{upperHolds, lowerHolds}
 use Rattle.automaton.specs.Automaton.{Automaton, inGuards}
 use Rattle.automaton.specs.Priced.{Priced, free}
@@ -24,9 +24,6 @@ use Rattle.automaton.proofs.Times.{delay-units}
 use Rattle.schedules.specs.Closed.{isClosed}
 use Rattle.schedules.specs.WalkTerms.{cornerState}
 use Rattle.schedules.proofs.CornerBounds.{corner-within, corner-guards}
-
-one-times : (z : ℤ) → pos 1 *ℤ z ≡ z
-one-times z = times-suc 0 z ∙ ap (λ (y : ℤ). y +ℤ z) (zero-*ℤ z) ∙ +ℤ-idl z
 
 -- a step that is a delay of d units of the state, d = 0 included
 pub record Delays (A : Automaton) (u : Node) (d : ℕ) (x : Priced Node) : Type 0 where

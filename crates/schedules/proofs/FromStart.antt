@@ -1,4 +1,4 @@
--- Walks that end with an edge as runs of their pairs, from any node and from the start.
+-- Walks as runs: one that ends with an edge is the run of its pairs, and any from the start is that of its pairs and a last delay.
 use mathlib.Core.Path.{_≡_, refl, ap, ap₂, subst}
 use mathlib.Core.Bool.{true}
 use mathlib.Core.List.{List, [], _∷_, _++_, zipWith}
@@ -16,7 +16,7 @@ use Rattle.automaton.proofs.Reached.{start-is-node}
 use Rattle.schedules.specs.Closed.{isClosed}
 use Rattle.schedules.specs.Pairs.{members, pairsOf}
 use Rattle.schedules.specs.WholeRuns.{WholeRun}
-use Rattle.schedules.specs.WalkTerms.{membersFrom, cornerState}
+use Rattle.schedules.specs.WalkTerms.{membersFrom, membersOf, cornerState}
 use Rattle.schedules.proofs.RunLaws.{runs-as, runs-before}
 use Rattle.schedules.proofs.WalkedRuns.{walk-runs}
 use Rattle.schedules.proofs.TurnLaws.{LastEdge, nothing-left}
@@ -44,3 +44,8 @@ module _ (A : Automaton) (o : Sound A) (closed : isClosed A ≡ true) where
   pub stem-runs : {e : ℕ} {v : Node} {codes : List ℕ} {c : ℤ} {r : ℕ} → LastEdge e codes → Walk (step A) (startNode A) codes v c r
       → WholeRun A (startState A) (members (pairsOf codes)) (cornerState v) c r
   stem-runs l w = from-start (pairs-run l (start-is-node A o) w)
+
+  -- every walk from the start
+  pub start-runs : {v : Node} {codes : List ℕ} {c : ℤ} {r : ℕ} → Walk (step A) (startNode A) codes v c r
+      → WholeRun A (startState A) (membersOf codes) (cornerState v) c r
+  start-runs w = from-start (walk-runs A o closed (start-is-node A o) w)

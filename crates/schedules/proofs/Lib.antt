@@ -9,6 +9,7 @@ pub mod EdgeInCycle
 pub mod PairLaws
 pub mod TurnLaws
 pub mod FromStart
+pub mod PotentialRuns
 pub mod WorkPlans
 pub mod PlanLoops
 pub mod Computes

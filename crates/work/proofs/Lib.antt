@@ -4,5 +4,6 @@ pub mod EdgeSearch
 pub mod LassoSteps
 pub mod ClosedSheet
 pub mod PlanRuns
+pub mod SmallestRun
 pub mod Exits
 pub mod JustWhen

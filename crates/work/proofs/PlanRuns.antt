@@ -25,13 +25,16 @@ module _ {bytes : List ℕ} {b b' : Buffers} {plan : Answer} (planned : Planned 
   passes : Passed bytes b
   passes = on-its-condition bytes b (plan .refusal) (planned .judged) .just-0 .0 accepts .0
 
-  -- the lasso is in its buffer
+  nodes-few : plan .n ≤ 2048
+  nodes-few = listed-few (stepOn bytes) (startOf bytes) (b' .nodes) (plan .n) (planned .accepted accepts .node-list)
+      (on-its-condition bytes b (plan .refusal) (planned .judged) .just-0 .0 accepts .1)
+
+  -- the potentials are in their buffer, and the lasso in its own
+  pub potentials-there : plan .n ≤ length (b' .potentials)
+  potentials-there = omega (arith, nodes-few, planned .lengths .potentials, passes .0 .potentials)
+
   pub lasso-short : plan .s + plan .m ≤ 2048
-  lasso-short = let p = planned .accepted accepts in omega (
-    arith,
-    p .short,
-    listed-few (stepOn bytes) (startOf bytes) (b' .nodes) (plan .n) (p .node-list) (on-its-condition bytes b (plan .refusal) (planned .judged) .just-0 .0 accepts .1),
-  )
+  lasso-short = omega (arith, planned .accepted accepts .short, nodes-few)
 
   pub lasso-there : plan .s + plan .m ≤ length (b' .steps)
   lasso-there = omega (arith, lasso-short, planned .lengths .steps, passes .0 .steps)

@@ -1,6 +1,7 @@
 //! The faults that can be planted, by their names.
 
 use crate::planted_pairs::{PairFault, PAIR_FAULTS};
+use crate::planted_smallest::{SmallestFault, SMALLEST_FAULTS};
 use crate::planted_strict::{Question18, QUESTION_18_FAULTS};
 use crate::planted_sums::{SumFault, SUM_FAULTS};
 use crate::planted_twice::{Twice, TWICE_FAULTS};
@@ -67,6 +68,8 @@ pub enum Fault {
     Prices,
     /// 16 in place of 15.
     Number,
+    /// A fault in the smallest of the potentials.
+    Smallest(SmallestFault),
     /// A fault in the units of a single step, but not along a lasso.
     Units(UnitFault),
     /// A fault in the units of a single step along a lasso.
@@ -118,6 +121,7 @@ const FAULTS: [(&str, Fault); 29] = [
 /// Each fault with its name.
 pub fn faults() -> Vec<(&'static str, Fault)> {
     let mut faults = FAULTS.to_vec();
+    faults.extend(SMALLEST_FAULTS.map(|(name, fault)| (name, Fault::Smallest(fault))));
     faults.extend(UNIT_FAULTS.map(|(name, fault)| (name, Fault::Units(fault))));
     faults.extend(LASSO_UNIT_FAULTS.map(|(name, fault)| (name, Fault::LassoUnits(fault))));
     faults.extend(SUM_FAULTS.map(|(name, fault)| (name, Fault::Sums(fault))));

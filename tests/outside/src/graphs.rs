@@ -6,12 +6,12 @@ use crate::coverage::SHEETS;
 use crate::expected::expect;
 use crate::hexadecimal;
 use crate::kinds::generate;
-use crate::library::Planner;
+use crate::library::{Answered, Planner};
 use crate::verdict::Verdict;
 use std::io::Write;
 
 fn ratio(planner: &Planner, bytes: &[u8]) -> Option<(i64, i64)> {
-    let (refusal, numbers) = planner.answer(bytes);
+    let Answered { refusal, numbers, .. } = planner.answer(bytes);
     (refusal == 0).then_some((numbers.p, numbers.q))
 }
 

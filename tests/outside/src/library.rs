@@ -11,6 +11,13 @@ pub struct Planner {
     pub fault: Option<Fault>,
 }
 
+/// What a plan answered, but for its nodes and its lasso.
+pub struct Answered {
+    pub refusal: u8,
+    pub numbers: PlanNumbers,
+    pub potentials: Vec<i64>,
+}
+
 impl Planner {
     pub fn check(&self, sheet: &[u8]) -> u8 {
         match (self.fault, calls::check(sheet)) {
@@ -81,14 +88,16 @@ impl Planner {
         }
     }
 
-    /// The refusal and the numbers of a plan.
-    pub fn answer(&self, sheet: &[u8]) -> (u8, PlanNumbers) {
+    pub fn answer(&self, sheet: &[u8]) -> Answered {
         let mut buffers = Buffers {
             nodes: vec![0; MOST_NODES],
             potentials: vec![0; MOST_NODES],
             steps: vec![0; MOST_NODES],
         };
         let mut numbers = PlanNumbers::default();
-        (self.plan(sheet, &mut buffers, &mut numbers), numbers)
+        let refusal = self.plan(sheet, &mut buffers, &mut numbers);
+        let mut potentials = buffers.potentials;
+        potentials.truncate(numbers.n as usize);
+        Answered { refusal, numbers, potentials }
     }
 }

@@ -31,6 +31,7 @@ mod marked;
 mod nths;
 mod planted;
 mod planted_pairs;
+mod planted_smallest;
 mod planted_strict;
 mod planted_sums;
 mod planted_twice;
@@ -46,11 +47,13 @@ mod sha256;
 mod shapes;
 mod sheet;
 mod sheets;
+mod small_sheets;
 mod strict;
 mod strict_sheets;
 mod tally;
 mod turned;
 mod twice;
+mod undercut;
 mod verdict;
 mod weights;
 mod write;
@@ -61,7 +64,7 @@ const USAGE: &str = "compare COMMAND [--seed N] [--count N] [--complete] [--faul
   sheets               random sheets through the library and the implementation here
   cases FOLDER         the frozen cases
   program FILE FOLDER  the printing program on the frozen plans
-  nths                 the loops of runs in nths against the plans of small sheets
+  nths                 runs in nths and their loops against the plans of small sheets
   graphs [FOLDER]      the graphs of accepted sheets, for the solvers";
 
 fn run() -> Result<(), String> {

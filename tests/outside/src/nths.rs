@@ -2,17 +2,15 @@
 //! promises where no bound and no guard is strict.
 
 use crate::arguments::Arguments;
-use crate::generate::{leave_out_copies, sheet, Shape};
 use crate::hexadecimal;
-use crate::idle::{lay, take_rewards, Laid};
-use crate::library::Planner;
+use crate::library::{Answered, Planner};
 use crate::questions::{idle_cycles, some_cycle_earns, some_idle_cycle_gains, Idle};
-use crate::random::Random;
-use crate::runs::{explore, loop_below, Runs};
-use crate::shapes::{small_shape, tiny_shape};
+use crate::runs::{explore, least_runs, loop_below, Runs};
 use crate::sheet::Sheet;
+use crate::small_sheets::make;
 use crate::strict::all_closed;
 use crate::tally::Tally;
+use crate::undercut::{self, judge_undercut};
 use crate::verdict::Verdict;
 use crate::write::write;
 
@@ -67,17 +65,23 @@ fn idle_loops(all: &[Runs]) -> Idle {
     idle_cycles(finest.states, &finest.members)
 }
 
-fn judge_accepted(sheet: &Sheet, all: &[Runs], p: i64, q: i64, tally: &mut Tally) -> Verdict<()> {
+/// The least weights of runs to each state, for each n.
+fn judge_loops(all: &[Runs], p: i64, q: i64, tally: &mut Tally) -> Verdict<Vec<Vec<i128>>> {
+    let mut weights = Vec::new();
     for (n, runs) in (1..).zip(all) {
         if idle_gains(runs) {
             return Err(format!("an idle loop of a run in nths, n = {n}, costs less than 0"));
         }
-        if loop_below(runs, i128::from(p), i128::from(q)) {
-            return Err(format!("a loop of a run in nths, n = {n}, is below the ratio {p}/{q}"));
-        }
+        weights.push(least_runs(runs, p.into(), q.into()).ok_or_else(|| {
+            format!("a loop of a run in nths, n = {n}, is below the ratio {p}/{q}")
+        })?);
     }
     tally.count(NONE_BELOW);
     tally.count(format!("accepted: idle loops, {}", idle_loops(all).named()));
+    Ok(weights)
+}
+
+fn judge_attained(sheet: &Sheet, all: &[Runs], p: i64, q: i64, tally: &mut Tally) -> Verdict<()> {
     let (above_p, above_q) = raised(p, q);
     let attained = (1..).zip(all).find(|(_, runs)| loop_below(runs, above_p, above_q));
     match (all_closed(sheet), attained.map(|(n, _): (u32, _)| n)) {
@@ -87,6 +91,18 @@ fn judge_accepted(sheet: &Sheet, all: &[Runs], p: i64, q: i64, tally: &mut Tally
         (false, Some(n)) => tally.count(format!("some strict, attained: n = {n}")),
     }
     Ok(())
+}
+
+fn judge_accepted(
+    sheet: &Sheet,
+    all: &[Runs],
+    answered: &Answered,
+    tally: &mut Tally,
+) -> Verdict<()> {
+    let (p, q) = (answered.numbers.p, answered.numbers.q);
+    let weights = judge_loops(all, p, q, tally)?;
+    judge_attained(sheet, all, p, q, tally)?;
+    judge_undercut(sheet, all, &weights, answered, tally)
 }
 
 /// Idle loops there may be, whatever they cost.
@@ -124,39 +140,15 @@ fn judge_sheet(planner: &Planner, sheet: &Sheet, bytes: &[u8], tally: &mut Tally
             return Ok(());
         }
     };
-    let (refusal, numbers) = planner.answer(bytes);
-    match refusal {
-        0 => judge_accepted(sheet, &all, numbers.p, numbers.q, tally)?,
+    let answered = planner.answer(bytes);
+    match answered.refusal {
+        0 => judge_accepted(sheet, &all, &answered, tally)?,
         13 => judge_13(&all, tally)?,
         14 => judge_14(sheet, &all, tally)?,
-        _ => tally.count(format!("left out: refused {refusal}")),
+        refusal => tally.count(format!("left out: refused {refusal}")),
     }
     tally.add("states: in all", all.iter().map(|runs| runs.states as u64).sum());
     Ok(())
-}
-
-fn make(seed: u64) -> Sheet {
-    let random = &mut Random::new(seed.wrapping_add(1 << 40));
-    let shape = if random.percent(30) { tiny_shape(random) } else { small_shape(random) };
-    let idle = random.percent(45);
-    let shape = Shape {
-        bound: shape.bound.min(4),
-        strict: random.pick(&[0, 0, 50, 100]),
-        earning: if idle { 50 } else { 100 },
-        forward: random.percent(8),
-        ..shape
-    };
-    let mut made = sheet(random, &shape);
-    if idle {
-        if random.percent(40) {
-            take_rewards(random, &mut made, shape.prices);
-        }
-        let gain = Laid::GainOrCost;
-        let laid = random.pick(&[Laid::Cost, Laid::CostOrFree, Laid::Free, gain, gain]);
-        lay(random, &mut made, laid, shape.prices);
-        leave_out_copies(&mut made);
-    }
-    made
 }
 
 pub fn run(arguments: &Arguments) -> Verdict<()> {
@@ -177,6 +169,7 @@ pub fn run(arguments: &Arguments) -> Verdict<()> {
     ));
     if arguments.complete {
         tally.keeps(&PROMISED)?;
+        tally.keeps(&undercut::PROMISED)?;
     }
     Ok(())
 }

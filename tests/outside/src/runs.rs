@@ -22,6 +22,8 @@ pub struct Runs {
     pub states: usize,
     /// Arcs between states, with n times the cost and n times the reward of a member.
     pub members: Vec<Arc>,
+    /// Whether each of them is a delay.
+    pub delays: Vec<bool>,
 }
 
 /// A sheet with more states than this is left alone.
@@ -69,34 +71,40 @@ pub fn after_delay(sheet: &Sheet, state: &State, nths: u32) -> State {
 pub fn explore(sheet: &Sheet, n: u32) -> Option<Runs> {
     let mut found = HashMap::from([(START, 0)]);
     let mut states = vec![START];
-    let mut members = Vec::new();
+    let (mut members, mut delays) = (Vec::new(), Vec::new());
     let mut from = 0;
     while from < states.len() {
         let state = states[from];
         let here = &sheet.locations[state.location];
-        let mut ways = vec![(after_delay(sheet, &state, 1), here.cost, here.reward)];
+        let mut ways = vec![(after_delay(sheet, &state, 1), here.cost, here.reward, true)];
         for edge in &sheet.edges {
             let next = after_edge(sheet, &state, edge, n);
             let (cost, reward) = (edge.cost * i64::from(n), edge.reward * i64::from(n));
-            ways.extend(next.map(|next| (next, cost, reward)));
+            ways.extend(next.map(|next| (next, cost, reward, false)));
         }
-        for (next, cost, reward) in ways.into_iter().filter(|way| admitted(sheet, &way.0, n)) {
+        ways.retain(|way| admitted(sheet, &way.0, n));
+        for (next, cost, reward, delay) in ways {
             let to = *found.entry(next).or_insert_with(|| {
                 states.push(next);
                 states.len() - 1
             });
             members.push(Arc { from, to, cost, reward });
+            delays.push(delay);
         }
         if states.len() > MOST_STATES {
             return None;
         }
         from += 1;
     }
-    Some(Runs { states: states.len(), members })
+    Some(Runs { states: states.len(), members, delays })
 }
 
-/// Whether some loop weighs less than 0 at p/q: it earns and has a ratio below, or it earns nothing
-/// and costs less than 0.
+/// The least weights of runs to each state at p/q, or none where some loop weighs less than 0: it
+/// earns and has a ratio below, or it earns nothing and costs less than 0.
+pub fn least_runs(runs: &Runs, p: i128, q: i128) -> Option<Vec<i128>> {
+    least_weights(runs.states, &weighted(&runs.members, p, q))
+}
+
 pub fn loop_below(runs: &Runs, p: i128, q: i128) -> bool {
-    least_weights(runs.states, &weighted(&runs.members, p, q)).is_none()
+    least_runs(runs, p, q).is_none()
 }

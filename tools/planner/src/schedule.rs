@@ -18,6 +18,28 @@ pub struct Row {
     pub clocks: Vec<i64>,
 }
 
+/// A row as it is shown. Behind the last wait of a run that breaks off there is no edge.
+#[derive(Clone, Debug, PartialEq, Eq)]
+pub struct Shown {
+    pub at: i64,
+    pub wait: i64,
+    pub location: usize,
+    pub edge: Option<usize>,
+    pub cost: i64,
+    pub reward: i64,
+}
+
+impl From<&Row> for Shown {
+    fn from(row: &Row) -> Shown {
+        let Row { at, wait, location, edge, cost, reward, .. } = *row;
+        Shown { at, wait, location, edge: Some(edge), cost, reward }
+    }
+}
+
+pub fn shown(rows: &[Row]) -> Vec<Shown> {
+    rows.iter().map(Shown::from).collect()
+}
+
 #[derive(Clone, Debug, PartialEq, Eq)]
 pub struct Schedule {
     /// How many nths make a unit.

@@ -20,7 +20,7 @@ pub const COMMANDS: [Command; 10] = [
         form: "FILE|- [--json] [--svg FILE] [--certificate FILE] [--nths N]",
         files: (1, 1),
         options: &["--json", "--svg FILE", "--certificate FILE", "--nths N"],
-        help: "the least ratio of a sheet, and a schedule that has it or comes near it
+        help: "the least ratio of a sheet, a schedule that has it or comes near it, and how far a run that breaks off undercuts it
   --json               one line of JSON in place of the text
   --svg FILE           the schedule as a chart, too
   --certificate FILE   all that shows the ratio to be the least, too, for `planner verify`

@@ -7,7 +7,7 @@ use std::collections::{BTreeMap, BTreeSet};
 use std::ffi::OsString;
 use tool::batch::{items::Item, line::line};
 use tool::input::Held;
-use tool::plan::{json::json, planned, Buffers};
+use tool::plan::{json::json, planned_in_full, Buffers};
 
 /// Reads a value and notes the type of each field under its path.
 struct Reader<'a> {
@@ -116,7 +116,7 @@ fn fields(json: &str) -> BTreeSet<(String, &'static str)> {
     reader.found
 }
 
-/// The table of README.md: field to types. The cycle of a schedule and a loop have the fields of its stem.
+/// The table of README.md: field to types. The cycle of a schedule, a loop and a run that breaks off have the fields of its stem.
 fn written() -> BTreeMap<String, Vec<String>> {
     let text = include_str!("../README.md");
     let section = text.split("## JSON").nth(1).and_then(|rest| rest.split("\n## ").next()).expect("a section");
@@ -133,25 +133,30 @@ fn written() -> BTreeMap<String, Vec<String>> {
     for part in ["nths", "stem", "cycle"] {
         rows.extend(copied(&format!("schedule.{part}"), &format!("loop.{part}"), &rows));
     }
+    for (field, types) in copied("schedule.stem.", "undercut.run.", &rows) {
+        rows.entry(field).or_insert(types);
+    }
     rows
+}
+
+fn sheet_file(name: &str) -> Item {
+    Item::File(OsString::from(format!("{}/../../sheets/{name}", env!("CARGO_MANIFEST_DIR"))))
 }
 
 /// Lines of every answer and of every kind of schedule.
 fn lines() -> Vec<String> {
     let mut buffers = Buffers::default();
     let mut found = Vec::new();
-    let sheets = ["bench.txt", "beacon.txt", "never-back.txt", "crowded.txt", "one-way.txt", "feed-in.txt"];
+    let sheets = ["bench.txt", "beacon.txt", "production.txt", "never-back.txt", "crowded.txt", "one-way.txt", "feed-in.txt"];
     for (name, finer) in
         sheets.map(|name| (name, None)).into_iter().chain([("beacon.txt", Some(10)), ("beacon.txt", Some(1)), ("never-back.txt", Some(9))])
     {
         let held = Held::Sheet(source(name));
-        found.push(json(&held, &planned(&mut buffers, &held, finer).expect("no difference")));
+        found.push(json(&held, &planned_in_full(&mut buffers, &held, finer).expect("no difference")));
     }
-    let wrong = format!("{}/../../sheets/wrong/unknown-word.txt", env!("CARGO_MANIFEST_DIR"));
-    let hint = format!("{}/../../sheets/wrong/unknown-word-in-edge.txt", env!("CARGO_MANIFEST_DIR"));
     let items = [
-        Item::File(OsString::from(wrong)),
-        Item::File(OsString::from(hint)),
+        sheet_file("wrong/unknown-word.txt"),
+        sheet_file("wrong/unknown-word-in-edge.txt"),
         Item::File(OsString::from("none\u{1b}\".txt")),
         Item::Line(7, b"01zz".to_vec()),
         Item::Line(8, b"0101".to_vec()),
@@ -173,4 +178,22 @@ fn the_fields_are_those_of_the_table() {
     }
     left.retain(|_, types| !types.is_empty());
     assert!(left.is_empty(), "in the table and never printed: {left:?}");
+}
+
+/// The "in" column has `plan --json` where a batch leaves a field out.
+#[test]
+fn a_batch_has_no_run_that_breaks_off() {
+    let of_run = |json: &str| -> Vec<String> {
+        let paths = fields(json).into_iter().map(|(field, _)| field);
+        paths.filter(|field| field.starts_with("undercut")).collect()
+    };
+    let figure = ["undercut", "undercut.about", "undercut.p", "undercut.q"];
+    assert_eq!(of_run(&line(&mut Buffers::default(), sheet_file("production.txt")).json), figure);
+    let held = Held::Sheet(source("production.txt"));
+    let found = of_run(&json(&held, &planned_in_full(&mut Buffers::default(), &held, None).expect("no difference")));
+    let more: Vec<_> = found.iter().filter(|field| !figure.contains(&field.as_str())).collect();
+    assert!(!more.is_empty() && more.iter().all(|field| field.starts_with("undercut.run")), "{more:?}");
+    let told = include_str!("../README.md").lines().filter(|line| line.contains("planned, by `plan --json`"));
+    let told: Vec<&str> = told.filter_map(|line| line.split('`').nth(1)).collect();
+    assert!(!told.is_empty() && told.iter().all(|field| more.iter().any(|other| other == field)), "{told:?}");
 }

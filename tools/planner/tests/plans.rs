@@ -5,7 +5,7 @@ mod common;
 use common::{source, Dice};
 use tool::input::Held;
 use tool::plan::text::text;
-use tool::plan::{json::json, lasso::examined, planned, Buffers, NoRun, Outcome, Plan, Planned, Standing};
+use tool::plan::{json::json, lasso::examined, planned, planned_in_full, Buffers, NoRun, Outcome, Plan, Planned, Standing};
 use tool::schedule::{sum, Sum};
 use tool::sheet::encode::encode;
 use tool::source::Source;
@@ -82,7 +82,7 @@ fn seeded_plans_are_shown_without_a_difference() {
         let sheet = if turn % 2 == 0 { dice.small_sheet() } else { dice.ring_sheet() };
         let held = Held::Sheet(Source { name: format!("turn {turn}"), bytes: encode(&sheet), sheet });
         let finer = [None, Some(1), Some(2), Some(10)][turn / 2 % 4];
-        let outcome = planned(&mut buffers, &held, finer).unwrap_or_else(|stop| panic!("turn {turn}: {stop:?}"));
+        let outcome = planned_in_full(&mut buffers, &held, finer).unwrap_or_else(|stop| panic!("turn {turn}: {stop:?}"));
         assert!(text(&held, &outcome).ends_with('\n') && json(&held, &outcome).ends_with('}'), "turn {turn}");
         let place = match outcome {
             Outcome::Refused { .. } => 0,

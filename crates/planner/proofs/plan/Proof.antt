@@ -40,6 +40,7 @@ left-as-asked c other = let s = settled c in record {
   lengths = same c;
   accepted = λ z. s .accepted z .accepted z;
   no-loop-below = λ z. s .accepted z .no-loop-below z;
+  no-run-below = λ z. s .accepted z .no-run-below z;
 }
 
 ask-requires : tie.Need-ask-requires

@@ -48,6 +48,16 @@ impl Certificate {
             cycle: plan.cycle.to_vec(),
         }
     }
+
+    /// The weight of a step, a walk or a run: q times its cost minus p times its reward.
+    pub fn weight(&self, cost: i64, reward: i64) -> i128 {
+        i128::from(self.q) * i128::from(cost) - i128::from(self.p) * i128::from(reward)
+    }
+
+    /// The smallest of the potentials: 0 or less, since the start's is 0.
+    pub fn smallest_potential(&self) -> i64 {
+        self.potentials.iter().copied().min().unwrap_or(0)
+    }
 }
 
 fn sheet_text(sheet: &[u8]) -> String {

@@ -20,10 +20,9 @@ pub fn hold(certificate: &Certificate, arcs: &[Arc]) -> Result<(), Broken> {
     arcs.iter().try_for_each(|arc| kept(certificate, arc))
 }
 
-/// The weight of a step is q times its cost minus p times its reward.
 fn kept(certificate: &Certificate, arc: &Arc) -> Result<(), Broken> {
-    let Certificate { sheet, p, q, nodes, potentials, .. } = certificate;
-    let weight = i128::from(*q) * i128::from(arc.cost) - i128::from(*p) * i128::from(arc.reward);
+    let Certificate { sheet, nodes, potentials, .. } = certificate;
+    let weight = certificate.weight(arc.cost, arc.reward);
     let [from, to] = [arc.from, arc.to].map(|place| potentials[place]);
     if i128::from(to) <= i128::from(from) + weight {
         return Ok(());

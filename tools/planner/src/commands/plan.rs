@@ -5,7 +5,7 @@ use crate::certificate::written;
 use crate::input::{self, shown, Held};
 use crate::output;
 use crate::picture::chart;
-use crate::plan::{json::json, planned, text::text, Buffers, Outcome, Planned, Standing};
+use crate::plan::{json::json, planned_in_full, text::text, Buffers, Outcome, Planned, Standing};
 use crate::run::FINEST;
 use crate::stop::{Answer, Stop};
 use crate::usage::Command;
@@ -34,7 +34,7 @@ pub fn plan(command: &Command, words: &Words) -> Result<Answer, Stop> {
     let (svg, certificate) = (words.output(command, "--svg")?, words.output(command, "--certificate")?);
     words.apart(command, "--svg", "--certificate")?;
     let held = input::sheet(file(words))?;
-    let outcome = planned(&mut Buffers::default(), &held, finer)?;
+    let outcome = planned_in_full(&mut Buffers::default(), &held, finer)?;
     let mut answer = match words.value("--json") {
         Some(_) => json(&held, &outcome) + "\n",
         None => text(&held, &outcome),

@@ -4,6 +4,7 @@ use super::agreed::{agreed, earning};
 use super::corner::{corners, Corners};
 use super::lasso::adds_up;
 use super::nths::{inside, least};
+use super::undercut::Undercut;
 use super::{Buffers, NoRun, Outcome, Plan, Planned, Standing};
 use crate::run::{of_schedule, replay, Loop, NotAllowed};
 use crate::schedule::{of_waits, Row, Schedule, Visit};
@@ -49,7 +50,7 @@ fn scaled(sheet: &Sheet, schedule: &Schedule, n: i64) -> Schedule {
 fn own(sheet: &Sheet, plan: Plan, schedule: Schedule, standing: Standing) -> Result<Outcome, Stop> {
     let replayed = agreed(sheet, &schedule)?;
     adds_up(&plan, "schedule", replayed.nths, replayed.sum)?;
-    Ok(Outcome::Planned(Box::new(Planned { plan, schedule, standing, replayed })))
+    Ok(Outcome::Planned(Box::new(Planned { plan, schedule, standing, replayed, undercut: Undercut::Unsought })))
 }
 
 /// The ratio of a loop that earns beside the ratio of the plan.
@@ -69,7 +70,7 @@ fn in_nths(sheet: &Sheet, plan: Plan, schedule: Schedule) -> Result<Outcome, Sto
         Ordering::Equal => Standing::Inside,
         Ordering::Greater => Standing::Near,
     };
-    Ok(Outcome::Planned(Box::new(Planned { plan, schedule, standing, replayed })))
+    Ok(Outcome::Planned(Box::new(Planned { plan, schedule, standing, replayed, undercut: Undercut::Unsought })))
 }
 
 /// The run in the least nths where that attains the ratio, or else the corner points, with every bound and guard taken as one that may

@@ -13,8 +13,8 @@ pub struct Corners {
     pub nodes: Vec<u32>,
 }
 
-/// Waits before edges, and where each edge is taken: a wait is the units that the steps before the edge take.
-fn visits(codes: &[u16], walk: &Walk) -> (Vec<Visit>, Vec<u32>) {
+/// Waits before edges, where each edge is taken, and the wait behind the last one: a wait is the units that its steps take.
+pub fn visits(codes: &[u16], walk: &Walk) -> (Vec<Visit>, Vec<u32>, i64) {
     let (mut visits, mut nodes, mut wait) = (Vec::new(), Vec::new(), 0);
     for ((code, node), units) in codes.iter().zip(&walk.nodes).zip(&walk.units) {
         wait += units;
@@ -24,7 +24,7 @@ fn visits(codes: &[u16], walk: &Walk) -> (Vec<Visit>, Vec<u32>) {
             wait = 0;
         }
     }
-    (visits, nodes)
+    (visits, nodes, wait)
 }
 
 pub fn corners(sheet: &Sheet, bytes: &[u8], stem: &[u16], cycle: &[u16]) -> Result<Corners, Stop> {
@@ -33,7 +33,7 @@ pub fn corners(sheet: &Sheet, bytes: &[u8], stem: &[u16], cycle: &[u16]) -> Resu
     };
     let before = stepped(bytes, 0, &stem)?;
     let round = stepped(bytes, before.end, &cycle)?;
-    let ((stem, mut nodes), (cycle, others)) = (visits(&stem, &before), visits(&cycle, &round));
+    let ((stem, mut nodes, _), (cycle, others, _)) = (visits(&stem, &before), visits(&cycle, &round));
     nodes.extend(others);
     Ok(Corners { schedule: of_waits(sheet, 1, &stem, &cycle), nodes })
 }

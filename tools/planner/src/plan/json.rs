@@ -1,33 +1,38 @@
 //! The answer as a line of JSON. Its form is written down in README.md beside the sources.
 
+use super::undercut::{BrokenOff, Undercut};
 use super::{Gain, Outcome, Planned, Standing};
 use crate::certificate::Certificate;
-use crate::fraction::decimal;
+use crate::fraction::{common_divisor, decimal};
 use crate::input::Held;
 use crate::json::{list, string, Object};
-use crate::schedule::{sum, Row, Schedule, Sum};
+use crate::schedule::{shown, sum, Schedule, Shown, Sum};
 use crate::sheet::Sheet;
 
+/// In lowest terms.
+fn quotient(upper: i128, lower: i128) -> Object {
+    let d = common_divisor(upper, lower).max(1);
+    Object::new().value("p", upper / d).value("q", lower / d).value("about", decimal(upper, lower))
+}
+
 fn ratio(upper: i64, lower: i64) -> String {
-    let d = crate::fraction::common_divisor(upper.into(), lower.into()).max(1) as i64;
-    let about = decimal(upper.into(), lower.into());
-    Object::new().value("p", upper / d).value("q", lower / d).value("about", about).end()
+    quotient(upper.into(), lower.into()).end()
 }
 
-fn row(sheet: &Sheet, row: &Row) -> String {
-    let (location, edge) = (&sheet.locations[row.location].name, &sheet.edges[row.edge].name);
-    let object = Object::new().value("at", row.at).value("wait", row.wait).text("location", location).text("edge", edge);
-    object.value("cost", row.cost).value("reward", row.reward).end()
+fn row(sheet: &Sheet, row: &Shown) -> String {
+    let edge = row.edge.map_or("null".to_string(), |edge| string(&sheet.edges[edge].name));
+    let object = Object::new().value("at", row.at).value("wait", row.wait).text("location", &sheet.locations[row.location].name);
+    object.value("edge", edge).value("cost", row.cost).value("reward", row.reward).end()
 }
 
-fn part(sheet: &Sheet, rows: &[Row], sum: Sum) -> String {
+fn part(sheet: &Sheet, rows: &[Shown], sum: Sum) -> String {
     let object = Object::new().value("time", sum.time).value("cost", sum.cost).value("reward", sum.reward);
     object.value("rows", list(rows.iter().map(|found| row(sheet, found)))).end()
 }
 
 fn parts(object: Object, sheet: &Sheet, schedule: &Schedule, cycle: Sum) -> String {
-    let object = object.value("nths", schedule.nths).value("stem", part(sheet, &schedule.stem, sum(&schedule.stem)));
-    object.value("cycle", part(sheet, &schedule.cycle, cycle)).end()
+    let object = object.value("nths", schedule.nths).value("stem", part(sheet, &shown(&schedule.stem), sum(&schedule.stem)));
+    object.value("cycle", part(sheet, &shown(&schedule.cycle), cycle)).end()
 }
 
 /// What the plan's cycle takes, costs and earns.
@@ -55,6 +60,16 @@ fn schedule(sheet: &Sheet, planned: &Planned) -> String {
     parts(object, sheet, &planned.schedule, planned.cycle())
 }
 
+/// The run stands only where it was searched for.
+fn undercut(sheet: &Sheet, planned: &Planned) -> String {
+    let (less, q) = planned.plan.undercut();
+    let (object, run) = (quotient(less, q), |run: &BrokenOff| part(sheet, &run.rows, run.sum));
+    match planned.undercut {
+        Undercut::Unsought => object.end(),
+        _ => object.value("run", planned.broken_off().map_or("null".to_string(), run)).end(),
+    }
+}
+
 /// The object, without a line end.
 pub fn json(held: &Held, outcome: &Outcome) -> String {
     let none = Sheet::default();
@@ -64,7 +79,8 @@ pub fn json(held: &Held, outcome: &Outcome) -> String {
         Outcome::Planned(planned) => {
             let Certificate { p, q, nodes, .. } = &planned.plan.certificate;
             let object = object.text("answer", "planned").value("ratio", ratio(*p, *q)).value("nodes", nodes.len());
-            object.value("cycle", cycle(planned.plan.cycle)).value("schedule", schedule(sheet, planned)).end()
+            let object = object.value("cycle", cycle(planned.plan.cycle)).value("schedule", schedule(sheet, planned));
+            object.value("undercut", undercut(sheet, planned)).end()
         }
         Outcome::Coarse { asked, least } => object.text("answer", "no run").value("nths", asked).value("least_nths", or_null(*least)).end(),
         Outcome::Refused { refusal, why, gain } => {

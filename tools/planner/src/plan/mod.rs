@@ -10,6 +10,8 @@ pub mod nths;
 pub mod refused;
 pub mod table;
 pub mod text;
+pub mod tight;
+pub mod undercut;
 
 use crate::certificate::Certificate;
 use crate::input::Held;
@@ -17,6 +19,7 @@ use crate::run::{Loop, NotAllowed};
 use crate::schedule::{Schedule, Sum};
 use crate::stop::Stop;
 use planner::{Planner, WorkPlanner};
+use undercut::{undercut, BrokenOff, Undercut};
 
 /// The buffers of the library's calls, kept from one plan to the next.
 #[derive(Default)]
@@ -52,6 +55,11 @@ impl Plan {
         let cycle = Sum { time: plan.units, cost: plan.cost, reward: plan.reward };
         Plan { certificate: Certificate::of(sheet, plan), cycle }
     }
+
+    /// How much less than the ratio times its reward a run costs at most, as a fraction: minus the smallest potential over q, in cost.
+    pub fn undercut(&self) -> (i128, i128) {
+        (-i128::from(self.certificate.smallest_potential()), self.certificate.q.into())
+    }
 }
 
 /// What the schedule that is shown is.
@@ -76,6 +84,8 @@ pub struct Planned {
     pub standing: Standing,
     /// What the cycle of the schedule takes, costs and earns, by replay.
     pub replayed: Loop,
+    /// The run that undercuts the ratio most.
+    pub undercut: Undercut,
 }
 
 impl Planned {
@@ -89,6 +99,14 @@ impl Planned {
         match self.is_own() {
             true => self.plan.cycle.times(self.schedule.nths),
             false => self.replayed.sum,
+        }
+    }
+
+    /// The run that undercuts the ratio most, where one is known that does at all.
+    pub fn broken_off(&self) -> Option<&BrokenOff> {
+        match &self.undercut {
+            Undercut::Attained(run) if !run.rows.is_empty() => Some(run),
+            _ => None,
         }
     }
 }
@@ -129,4 +147,13 @@ pub fn planned(buffers: &mut Buffers, held: &Held, finer: Option<i64>) -> Result
             }
         },
     }
+}
+
+/// The same with the run that undercuts the ratio most, which is searched for by single steps.
+pub fn planned_in_full(buffers: &mut Buffers, held: &Held, finer: Option<i64>) -> Result<Outcome, Stop> {
+    let mut outcome = planned(buffers, held, finer)?;
+    if let (Held::Sheet(source), Outcome::Planned(planned)) = (held, &mut outcome) {
+        planned.undercut = undercut(&source.sheet, &planned.plan.certificate)?;
+    }
+    Ok(outcome)
 }

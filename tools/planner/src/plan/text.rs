@@ -1,11 +1,12 @@
 //! The answer as it is read.
 
-use super::table::table;
+use super::table::tables;
+use super::undercut::{BrokenOff, Undercut};
 use super::{Gain, NoRun, Outcome, Plan, Planned, Standing};
 use crate::fraction::{about, counted, fraction};
 use crate::input::Held;
 use crate::run::FINEST;
-use crate::schedule::{sum, Row};
+use crate::schedule::{shown, sum};
 use crate::sheet::Sheet;
 
 /// What the rows of a schedule and the sums of its stem rest on.
@@ -95,34 +96,60 @@ fn period(time: i64, nths: i64) -> String {
     }
 }
 
+/// How far a run that breaks off may undercut the ratio, and what is known of one that does.
+fn undercut(planned: &Planned) -> String {
+    let (less, q) = planned.plan.undercut();
+    if less == 0 {
+        return format!("undercut 0: wherever a run breaks off, it costs no less than the ratio times its reward ({PROVED})\n");
+    }
+    let decimal = if less % q == 0 { String::new() } else { format!(", {}", about(less, q)) };
+    let known = match planned.undercut {
+        Undercut::Attained(_) => format!("; the run broken off below costs exactly so much less ({REPLAY})"),
+        Undercut::Unattained => {
+            format!("; no run in whole units costs exactly so much less ({SEARCH}), and whether one in nths does is not known")
+        }
+        Undercut::Unsought => String::new(),
+    };
+    let most = format!("wherever a run breaks off, it costs at most so much less than the ratio times its reward ({PROVED})");
+    format!("undercut {}{decimal}: {most}{known}\n", fraction(less, q))
+}
+
+/// The run that undercuts the ratio most.
+fn broken_off(run: &BrokenOff, table: &str, plan: &Plan) -> String {
+    let less = fraction(-plan.certificate.weight(run.sum.cost, run.sum.reward), plan.certificate.q.into());
+    let sums = format!("{}: {less} less than the ratio times its reward", run.sum.words(1));
+    part("run, broken off", table, &sums, REPLAY)
+}
+
 fn planned_text(sheet: &Sheet, name: &str, planned: &Planned) -> String {
-    let Planned { plan: Plan { certificate, .. }, schedule, .. } = planned;
-    let all: Vec<Row> = schedule.rows().cloned().collect();
-    let table = |rows: &[Row]| table(sheet, schedule.nths, rows, &all);
-    let (p, q) = (certificate.p, certificate.q);
+    let Planned { plan, schedule, .. } = planned;
+    let (nths, cycle, run) = (schedule.nths, planned.cycle(), planned.broken_off());
+    let run_rows = run.map_or(Vec::new(), |run| run.rows.clone());
+    let [stem_table, cycle_table, run_table] =
+        tables(sheet, [(nths, shown(&schedule.stem)), (nths, shown(&schedule.cycle)), (1, run_rows)]);
+    let (p, q) = (plan.certificate.p, plan.certificate.q);
     let mut text = format!("{name}: planned\n\n");
     text += &format!("ratio {p}/{q}, {}: no repeating schedule costs less per reward ({PROVED})\n", about(p.into(), q.into()));
     text += &attained(planned);
-    text += &format!("nodes {} of 2,048: all that can be reached ({PROVED})\n", counted(certificate.nodes.len()));
-    text += &part("stem, once", &table(&schedule.stem), &sum(&schedule.stem).words(schedule.nths), basis(&planned.standing));
-    let (nths, cycle) = (schedule.nths, planned.cycle());
-    text + &part(&period(cycle.time, nths), &table(&schedule.cycle), &cycle.words(nths), &cycle_basis(planned))
+    text += &format!("nodes {} of 2,048: all that can be reached ({PROVED})\n", counted(plan.certificate.nodes.len()));
+    text += &undercut(planned);
+    text += &part("stem, once", &stem_table, &sum(&schedule.stem).words(nths), basis(&planned.standing));
+    text += &part(&period(cycle.time, nths), &cycle_table, &cycle.words(nths), &cycle_basis(planned));
+    text + &run.map_or(String::new(), |run| broken_off(run, &run_table, plan))
 }
 
 /// The loop of refusal 14, step by step.
 fn gain_text(sheet: &Sheet, gain: &Gain) -> String {
     let Gain { schedule, no_run } = gain;
-    let all: Vec<Row> = schedule.rows().cloned().collect();
+    let [stem, cycle] = tables(sheet, [(1, shown(&schedule.stem)), (1, shown(&schedule.cycle))]);
     let (mut text, basis) = match no_run {
         None => (String::new(), REPLAY),
         Some(NoRun { row, what }) => {
             (format!("its corner points are no run, and runs may only come near: in row {row}, {what}\n"), CLOSED_REPLAY)
         }
     };
-    for (head, rows) in [("the way to it", &schedule.stem), ("the loop", &schedule.cycle)] {
-        text += &part(head, &table(sheet, 1, rows, &all), &sum(rows).words(1), basis);
-    }
-    text
+    text += &part("the way to it", &stem, &sum(&schedule.stem).words(1), basis);
+    text + &part("the loop", &cycle, &sum(&schedule.cycle).words(1), basis)
 }
 
 pub fn text(held: &Held, outcome: &Outcome) -> String {

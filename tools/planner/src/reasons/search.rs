@@ -1,15 +1,12 @@
 //! The tool's own search: every node that steps lead to from the start, breadth first.
 
-use crate::nodes::{node, Arc};
+use crate::nodes::{node, steps, Arc};
 use crate::sheet::Sheet;
 use crate::stop::Stop;
 use std::collections::HashMap;
 
 /// The search stops where it would go on to one more.
 pub const MOST: usize = planner::LEAST_ENTRIES;
-
-/// The refusal of a code that is not allowed at a node.
-const NOT_ALLOWED: u8 = 16;
 
 #[derive(Debug, Default)]
 pub struct Graph {
@@ -43,14 +40,7 @@ impl Graph {
     }
 
     fn steps(&mut self, sheet: &Sheet, bytes: &[u8], from: usize) -> Result<(), Stop> {
-        for code in codes(sheet, self.location(from)) {
-            let step = match planner::step(bytes, self.nodes[from], code) {
-                Ok(step) => step,
-                Err(refusal) if refusal.number() == NOT_ALLOWED => continue,
-                Err(refusal) => {
-                    return Err(Stop::Difference(format!("the step at node {}, which is reached, is {refusal}", self.nodes[from])))
-                }
-            };
+        for (code, step) in steps(sheet, bytes, self.nodes[from])? {
             let Some(to) = self.place(step.node, Some(self.arcs.len())) else {
                 self.more = true;
                 return Ok(());
@@ -59,12 +49,6 @@ impl Graph {
         }
         Ok(())
     }
-}
-
-/// Those that can be allowed in a location: its edges, a unit of delay and a move.
-fn codes(sheet: &Sheet, location: usize) -> impl Iterator<Item = u16> + '_ {
-    let leaves = move |code: &u16| sheet.edges[usize::from(*code)].source == location;
-    (0..sheet.edges.len() as u16).filter(leaves).chain([planner::UNIT, planner::MOVE])
 }
 
 /// The whole graph, or its first 2,048 nodes where there are more.

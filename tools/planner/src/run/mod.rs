@@ -1,11 +1,13 @@
-//! Runs in nths: delays and edges from the start of a sheet, with a loop at the end.
+//! Runs in nths: delays and edges from the start of a sheet, with a loop at the end or broken off.
 
 pub mod read;
+mod replayer;
 
 use crate::fraction::fraction;
 use crate::schedule::{Schedule, Sum};
-use crate::sheet::{lower_words, upper_words, Edge, Sheet};
+use crate::sheet::Sheet;
 use crate::text::fault::{fault, Fault};
+use replayer::Replay;
 
 /// The largest number of nths in a unit.
 pub const FINEST: i64 = 1000;
@@ -55,121 +57,33 @@ pub struct NotAllowed {
     pub fault: Fault,
 }
 
-#[derive(Clone, Debug, PartialEq, Eq)]
-struct State {
-    location: usize,
-    clocks: Vec<i64>,
-}
-
-struct Replay<'a> {
-    sheet: &'a Sheet,
-    n: i64,
-    state: State,
-    passed: Sum,
-}
-
 /// Replays a run from the start of the sheet, and prices its loop.
 pub fn replay(sheet: &Sheet, run: &Run) -> Result<Replayed, NotAllowed> {
-    let start = State { location: 0, clocks: vec![0; sheet.clocks.len()] };
-    let mut replay = Replay { sheet, n: run.nths, state: start, passed: Sum::default() };
-    let mut mark = replay.state.clone();
-    let mut passed = vec![replay.passed];
-    for (place, member) in run.members.iter().enumerate() {
-        if place == run.before {
-            mark = replay.state.clone();
-        }
-        let taken = match *member {
-            Member::Delay(nths) => replay.delay(nths),
-            Member::Edge(i) => replay.edge(&sheet.edges[i]),
-        };
-        taken.map_err(|fault| NotAllowed { place, fault })?;
-        passed.push(replay.passed);
-    }
-    if run.before >= run.members.len() || mark != replay.state {
+    let (before, around) = run.members.split_at(run.before);
+    let mut replay = Replay::start(sheet, run.nths);
+    replay.go(before)?;
+    let mark = replay.state.clone();
+    replay.go(around)?;
+    if around.is_empty() || mark != replay.state {
         let fault = fault("the run does not come back to where its loop began", "equal location and clock values at both ends");
         return fault.map_err(|fault| NotAllowed { place: run.members.len(), fault });
     }
-    let around = Loop { nths: run.nths, sum: replay.passed - passed[run.before] };
+    let passed = replay.passed;
+    let around = Loop { nths: run.nths, sum: passed[run.members.len()] - passed[run.before] };
     Ok(Replayed { around, passed })
+}
+
+/// Replays members of a run, which need not come back: what had passed before each and at the end.
+pub fn passed(sheet: &Sheet, nths: i64, members: &[Member]) -> Result<Vec<Sum>, NotAllowed> {
+    let mut replay = Replay::start(sheet, nths);
+    replay.go(members)?;
+    Ok(replay.passed)
 }
 
 /// The run that a schedule is.
 pub fn of_schedule(schedule: &Schedule) -> Run {
     let members = schedule.rows().flat_map(|row| [Member::Delay(row.wait), Member::Edge(row.edge)]).collect();
     Run { nths: schedule.nths, members, before: 2 * schedule.stem.len() }
-}
-
-impl Replay<'_> {
-    fn delay(&mut self, nths: i64) -> Result<(), Fault> {
-        if nths < 0 {
-            return fault(format!("a delay of {nths}"), "0 or more");
-        }
-        let location = &self.sheet.locations[self.state.location];
-        self.passed.time += nths;
-        self.passed.cost += nths * i64::from(location.cost);
-        self.passed.reward += nths * i64::from(location.reward);
-        self.state.clocks.iter_mut().for_each(|clock| *clock += nths);
-        self.within("the delay")
-    }
-
-    fn value(&self, j: usize) -> String {
-        format!("{} = {}", self.sheet.clocks[j], fraction(self.state.clocks[j].into(), self.n.into()))
-    }
-
-    /// An upper byte 2c means < c and 2c + 1 means ≤ c, compared at c times n.
-    fn below(&self, j: usize, byte: u8) -> bool {
-        let (value, bound) = (self.state.clocks[j], i64::from(byte / 2) * self.n);
-        value < bound || (byte & 1 == 1 && value == bound)
-    }
-
-    fn above(&self, j: usize, byte: u8) -> bool {
-        let (value, bound) = (self.state.clocks[j], i64::from(byte / 2) * self.n);
-        value > bound || (byte & 1 == 0 && value == bound)
-    }
-
-    fn within(&self, after: &str) -> Result<(), Fault> {
-        let location = &self.sheet.locations[self.state.location];
-        for (j, clock) in self.sheet.clocks.iter().enumerate() {
-            match location.upper[j] {
-                Some(byte) if !self.below(j, byte) => {
-                    let bound = format!("{clock} {} in location '{}'", upper_words(byte), location.name);
-                    return fault(format!("after {after} {}", self.value(j)), bound);
-                }
-                _ => {}
-            }
-        }
-        Ok(())
-    }
-
-    fn guarded(&self, edge: &Edge) -> Result<(), Fault> {
-        for (j, clock) in self.sheet.clocks.iter().enumerate() {
-            let wanted = match (edge.lower[j], edge.upper[j]) {
-                (Some(byte), _) if !self.above(j, byte) => lower_words(byte),
-                (_, Some(byte)) if !self.below(j, byte) => upper_words(byte),
-                _ => continue,
-            };
-            return fault(format!("at edge '{}' {}", edge.name, self.value(j)), format!("{clock} {wanted}"));
-        }
-        Ok(())
-    }
-
-    fn edge(&mut self, edge: &Edge) -> Result<(), Fault> {
-        let (here, source) = (&self.sheet.locations[self.state.location].name, &self.sheet.locations[edge.source].name);
-        if edge.source != self.state.location {
-            let name = &edge.name;
-            return fault(format!("edge '{name}' leaves '{source}', and the run is in '{here}'"), format!("an edge that leaves '{here}'"));
-        }
-        self.guarded(edge)?;
-        self.passed.cost += self.n * i64::from(edge.cost);
-        self.passed.reward += self.n * i64::from(edge.reward);
-        self.state.location = edge.target;
-        for (j, clock) in self.state.clocks.iter_mut().enumerate() {
-            if edge.reset >> j & 1 == 1 {
-                *clock = 0;
-            }
-        }
-        self.within(&format!("edge '{}'", edge.name))
-    }
 }
 
 #[cfg(test)]
