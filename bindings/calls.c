@@ -32,8 +32,11 @@ static const uint8_t strict_guard[18] = {1, 1, 1, 1, 5, 1, 0, 5, 15, 0, 0, 0, 5,
 static const uint8_t strict_no_cycle[18] = {1, 1, 1, 1, 5, 1, 0, 2, 15, 0, 0, 0, 5, 0, 2, 0, 1, 2};
 /* Two locations in turn: edge 0 leaves the first after 1 unit, edge 1 the second after 2, and to wait longer costs more. */
 static const uint8_t in_turn[26] = {1, 2, 1, 2, 5, 1, 0, 5, 5, 2, 0, 7, 12, 0, 0, 1, 1, 2, 14, 0, 1, 0, 3, 0, 1, 4};
+/* Edition 2: three locations in a ring, rates 1 to 3, four clocks <= 1; edge 0 asks clock 3 for 1 and resets all, edge 2 earns 2. */
+static const uint8_t four_clocks[42] = {2, 3, 4, 3, 61, 1, 0, 3, 3, 3, 3, 61, 2, 0, 3, 3, 3, 3, 61, 3, 0, 3, 3, 3, 3,
+                                        68, 4, 0, 1, 15, 2, 3, 0, 0, 1, 2, 2, 0, 2, 0, 2, 0};
 
-static uint32_t nodes[LONGER];
+static uint64_t nodes[LONGER];
 static int64_t potentials[LONGER];
 static uint16_t steps[LONGER];
 static int64_t p, q, n, s, m, units, cost, reward;
@@ -52,7 +55,7 @@ static uint8_t plan(const uint8_t *sheet, size_t length, size_t entries) {
 }
 
 /* Whether all three buffers hold the entry, but for so many at their front. */
-static int hold(uint32_t entry, size_t node_count, size_t step_count) {
+static int hold(uint64_t entry, size_t node_count, size_t step_count) {
     for (size_t i = 0; i < LONGER; i++) {
         if (i >= node_count && (nodes[i] != entry || potentials[i] != (int64_t)entry)) return 0;
         if (i >= step_count && steps[i] != entry) return 0;
@@ -75,22 +78,22 @@ static void accepted(void) {
 }
 
 /* The numbers of a step. */
-static uint32_t number;
+static uint64_t number;
 static int64_t step_cost, step_reward, step_units;
 
 /* Steps with a mark in every number. */
-static uint8_t step(const uint8_t *sheet, size_t length, uint32_t node, uint16_t code) {
+static uint8_t step(const uint8_t *sheet, size_t length, uint64_t node, uint16_t code) {
     number = MARK;
     step_cost = step_reward = step_units = MARK;
     return planner_step(sheet, length, node, code, &number, &step_cost, &step_reward, &step_units);
 }
 
 /* Whether the step gave this node's number, and 0 for the other three. */
-static int only(uint32_t node) { return number == node && step_cost == 0 && step_reward == 0 && step_units == 0; }
+static int only(uint64_t node) { return number == node && step_cost == 0 && step_reward == 0 && step_units == 0; }
 
 /* The lasso of the plan before, walked by single steps. */
 static void walked(void) {
-    uint32_t node = 0, knot = 0;
+    uint64_t node = 0, knot = 0;
     int64_t taken = 0, costs = 0, rewards = 0;
     for (int64_t i = 0; i < s + m; i++) {
         if (i == s) knot = node;
@@ -166,9 +169,25 @@ static void worked(void) {
     EXPECT(pair_is(0, 1, 0) && pair_is(1, 2, 1) && pair_is(2, 1, 0));
 }
 
+/* Node numbers above 2^32, as an argument, as an answer and in the list. */
+static void wide_numbers(void) {
+    const uint64_t second = (uint64_t)1 << 31, third = (uint64_t)2 << 31, inside = 16909321, end = 135274560;
+    const uint64_t apart[4] = {0, inside - 1, inside, end};
+    const size_t length = sizeof four_clocks;
+    EXPECT(step(four_clocks, length, second, 1) == 0 && only(third));
+    EXPECT(step(four_clocks, length, third, PLANNER_MOVE) == 0 && only(third + inside));
+    EXPECT(step(four_clocks, length, third + inside, PLANNER_UNIT) == 0);
+    EXPECT(number == third + inside - 1 && step_cost == 3 && step_reward == 0 && step_units == 1);
+    for (int bit = 35; bit < 64; bit++)
+        EXPECT(step(four_clocks, length, third | (uint64_t)1 << bit, PLANNER_MOVE) == 15 && only(0));
+    EXPECT(plan(four_clocks, length, LONGER) == 0 && p == 1 && q == 2 && n == 12 && hold(0, 12, (size_t)(s + m)));
+    for (size_t i = 0; i < 12; i++) EXPECT(nodes[i] == (i < 4 ? 0 : i < 8 ? second : third) + apart[i % 4]);
+}
+
 int main(void) {
     work_refused();
     worked();
+    wide_numbers();
     refused();
     refused_twice();
     accepted();

@@ -32,10 +32,10 @@
  *     refusal  question answered no                                     check  step  plan  work
  *        1     Has each buffer at least 2,048 entries, those of a work                x     x
  *              plan 2,049?
- *        2     Is the length 4 to 580?                                    x      x    x     x
- *        3     Is the edition 1?                                          x      x    x     x
- *        4     Are the counts of locations (1 to 12), clocks (1 to 3)     x      x    x     x
- *              and edges (0 to 32) in range?
+ *        2     Is the length 4 to 656?                                    x      x    x     x
+ *        3     Is the edition 1 or 2?                                     x      x    x     x
+ *        4     Are the counts of locations (1 to 12), clocks (1 to 3,     x      x    x     x
+ *              in edition 2 to 4) and edges (0 to 32) in range?
  *        5     Are the bytes of each record there?                        x      x    x     x
  *        6     Are only permitted bits set in each record's map?          x      x    x     x
  *        7     Does a bound stand for each clock of each location?        x      x    x     x
@@ -57,7 +57,7 @@
  *
  * STACK AND THREADS
  *   The functions allocate nothing; their room is the caller's stack. As bench/plan/run measured it,
- *   planner_work took 903 KB, planner_plan 874 KB, planner_step 4 KB and planner_check 2 KB at most;
+ *   planner_work took 927 KB, planner_plan 890 KB, planner_step 4 KB and planner_check 2 KB at most;
  *   it fails where one takes 2 MB. So a thread that plans does with a stack of 2 MB.
  *   They have no state, global or kept from call to call: threads may call them at the same time,
  *   each with memory of its own to write to. They do no input or output and set no errno.
@@ -73,7 +73,7 @@ extern "C" {
 #endif
 
 enum {
-    PLANNER_LONGEST_SHEET = 580, /* bytes; a longer one is refused with 2 */
+    PLANNER_LONGEST_SHEET = 656, /* bytes; a longer one is refused with 2 */
     PLANNER_LEAST_ENTRIES = 2048, /* of each buffer of a plan; a shorter one is refused with 1 */
     PLANNER_LEAST_PAIRS = 2049, /* of each buffer of a work plan; a shorter one is refused with 1 */
     PLANNER_UNIT = 32, /* the code of one unit of delay; 0 to 31 are the sheet's edges */
@@ -97,8 +97,8 @@ uint8_t planner_check(const uint8_t *sheet, size_t sheet_length);
  * cost, reward         get what the step costs and earns
  * units                gets the units of time that it takes: 1 for PLANNER_UNIT, 0 for any other
  */
-uint8_t planner_step(const uint8_t *sheet, size_t sheet_length, uint32_t node, uint16_t code,
-                     uint32_t *number, int64_t *cost, int64_t *reward, int64_t *units);
+uint8_t planner_step(const uint8_t *sheet, size_t sheet_length, uint64_t node, uint16_t code,
+                     uint64_t *number, int64_t *cost, int64_t *reward, int64_t *units);
 
 /*
  * Plans a sheet: questions 1 to 14 and 17.
@@ -124,7 +124,7 @@ uint8_t planner_step(const uint8_t *sheet, size_t sheet_length, uint32_t node, u
  *     refused, 1-11, 17 what stood there before: nothing is written to a buffer
  *     refused, 12-14    0 in every entry of all three
  */
-uint8_t planner_plan(const uint8_t *sheet, size_t sheet_length, uint32_t *nodes,
+uint8_t planner_plan(const uint8_t *sheet, size_t sheet_length, uint64_t *nodes,
                      size_t nodes_length, int64_t *potentials, size_t potentials_length,
                      uint16_t *steps, size_t steps_length, int64_t *p, int64_t *q, int64_t *n,
                      int64_t *s, int64_t *m, int64_t *units, int64_t *cost, int64_t *reward);

@@ -82,6 +82,14 @@ void run_refused(const Kind &sparse, const Kind &dense) {
     run_row(make_too_long(sparse, 1950), "a byte too many");
 }
 
+// Sheets of edition 2, accepted ones and ones with too many nodes.
+void run_four_clocks() {
+    const Kind sparse{4, 0, 0, 3.2, 3.8}, dense{4, 1, 32, 25, 30};
+    for (unsigned n : {50, 100, 200, 400, 800, 1400, 1950}) run_row(make_sheet(sparse, n), "the wanted nodes");
+    for (unsigned n : {800, 1400, 1900}) run_row(make_sheet(dense, n), "the wanted nodes");
+    for (const Kind &kind : {sparse, dense}) run_row(make_overfull(kind), "too many nodes");
+}
+
 size_t kilobytes(size_t bytes) { return (bytes + 1023) / 1024; }
 
 // Whether the answers agree and the stack is no deeper than it may be.
@@ -123,6 +131,8 @@ int main(int count, char **words) {
     run_idle(sparse2, room3);
     head("No cycle that earns, a cycle without reward that makes money, a byte too many");
     run_refused(sparse2, room3);
+    head("Four clocks");
+    run_four_clocks();
     std::vector<Row> all;
     for (const auto &[sheet, row] : rows) all.push_back(row);
     print_summary(all, "C++", &Row::cpp);

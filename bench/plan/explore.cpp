@@ -8,7 +8,7 @@ namespace {
 struct Search {
     const Sheet &sheet;
     Graph &graph;
-    std::unordered_map<uint32_t, uint32_t> places; // number to place in order of discovery
+    std::unordered_map<uint64_t, uint32_t> places; // number to place in order of discovery
     std::vector<std::vector<int>> codes;           // by location
 
     Search(const Sheet &s, Graph &g) : sheet(s), graph(g), codes(s.locations.size()) {
@@ -21,7 +21,7 @@ struct Search {
     }
 
     bool take(uint32_t from, int code, const Step &s) {
-        auto [found, fresh] = places.try_emplace(number_of(s.to), uint32_t(graph.numbers.size()));
+        auto [found, fresh] = places.try_emplace(number_of(sheet, s.to), uint32_t(graph.numbers.size()));
         if (fresh) {
             if (graph.numbers.size() == most_nodes) return false;
             graph.numbers.push_back(found->first);
@@ -40,7 +40,7 @@ bool explore(const Sheet &sheet, Graph &graph) {
     graph.parent = {0};
     search.places[0] = 0;
     for (uint32_t from = 0; from < graph.numbers.size(); from++) {
-        Node node = node_of(graph.numbers[from]);
+        Node node = node_of(sheet, graph.numbers[from]);
         for (int code : search.codes[size_t(node.location)]) {
             Step s = step(sheet, node, code);
             if (s.allowed && !search.take(from, code, s)) return false;

@@ -10,7 +10,7 @@ struct Arc {
 };
 
 struct Graph {
-    std::vector<uint32_t> numbers; // in order of discovery, the start first
+    std::vector<uint64_t> numbers; // in order of discovery, the start first
     std::vector<Arc> arcs;         // by source, then code
     std::vector<uint32_t> parent;  // the arc that first led to each node but the start
 };

@@ -17,6 +17,8 @@ void put_word(std::vector<uint8_t> &bytes, int w) {
     bytes.push_back(uint8_t(w >> 8 & 255));
 }
 
+uint8_t edition_with(int clocks) { return clocks == most_clocks ? 2 : 1; }
+
 int price(Dice &dice, int most) {
     int p = dice.from(1, most);
     return dice.chance(50) ? p : -p;
@@ -52,7 +54,7 @@ std::vector<uint8_t> random_sheet(Kind kind, unsigned seed) {
         kind.locations = dice.from(1, 12);
         kind.edges = kind.locations * 8 / 3;
     }
-    std::vector<uint8_t> bytes{1, uint8_t(kind.locations), uint8_t(kind.clocks), uint8_t(kind.edges)};
+    std::vector<uint8_t> bytes{edition_with(kind.clocks), uint8_t(kind.locations), uint8_t(kind.clocks), uint8_t(kind.edges)};
     for (int i = 0; i < kind.locations; i++) put_location(bytes, kind, high, dice);
     for (int i = 0; i < kind.edges; i++) put_edge(bytes, kind, i, high, dice);
     return bytes;
@@ -122,15 +124,27 @@ Made make_too_long(const Kind &kind, unsigned nodes) {
     return {made.bytes, 0};
 }
 
-Made make_longest() {
-    std::vector<uint8_t> bytes{1, 12, 3, 32};
-    for (int i = 0; i < 12; i++) bytes.insert(bytes.end(), {0x1f, 1, 0, 1, 0, 3, 3, 3});
-    for (int i = 0; i < 32; i++) {
-        // only the first edge leaves location 0, and it leads back there
-        uint8_t source = uint8_t(i == 0 ? 0 : 1 + i / 12), target = uint8_t(i % 12);
-        bytes.insert(bytes.end(), {0xff, 1, source, target, 1, 0, 1, 0, 7, 2, 2, 2, 3, 3, 3});
+Longest::Longest(int clocks, uint8_t lower, uint8_t upper) : bytes{edition_with(clocks), locations, uint8_t(clocks), edges} {
+    const int all = (1 << clocks) - 1, uppers = 3 + edition_of(bytes[0]).clocks;
+    std::vector<uint8_t> location{uint8_t(3 | all << 2), 1, 0, 1, 0}, edge;
+    location.insert(location.end(), size_t(clocks), upper);
+    put_word(edge, 7 | all << 3 | all << uppers);
+    edge.insert(edge.end(), {0, 0, 1, 0, 1, 0, uint8_t(all)});
+    edge.insert(edge.end(), size_t(clocks), lower);
+    edge.insert(edge.end(), size_t(clocks), upper);
+    edge_bytes = edge.size();
+    for (size_t i = 0; i < locations; i++) bytes.insert(bytes.end(), location.begin(), location.end());
+    for (size_t i = 0; i < edges; i++) bytes.insert(bytes.end(), edge.begin(), edge.end());
+}
+
+// Only the first edge leaves location 0, and it leads back there.
+Made make_longest(int clocks) {
+    Longest longest(clocks, 2, 3);
+    for (size_t i = 1; i < Longest::edges; i++) {
+        longest.edge(i)[2] = uint8_t(1 + i / Longest::locations);
+        longest.edge(i)[3] = uint8_t(i % Longest::locations);
     }
-    return {bytes, 4};
+    return {longest.bytes, 4};
 }
 
 Made make_bench() { return {{1, 1, 1, 1, 5, 1, 0, 5, 15, 0, 0, 0, 5, 0, 2, 0, 1, 2}, 7}; }

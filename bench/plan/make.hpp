@@ -1,4 +1,4 @@
-// Seeded sheets of a wanted size.
+// Seeded sheets of a wanted size, with four clocks in edition 2 and with fewer in edition 1.
 #pragma once
 #include <cstddef>
 #include <cstdint>
@@ -34,5 +34,15 @@ Made make_too_long(const Kind &kind, unsigned nodes);
 // The paper's sheet of eighteen bytes.
 Made make_bench();
 
-// A sheet of the greatest length, with no strict bound or guard and few nodes: much of the time of its plan goes to reading it.
-Made make_longest();
+// The longest sheet with so many clocks: every field stands, with these bytes for bounds and guards, and all edges are equal.
+struct Longest {
+    static constexpr size_t locations = 12, edges = 32;
+    std::vector<uint8_t> bytes;
+    size_t edge_bytes = 0;
+
+    Longest(int clocks, uint8_t lower, uint8_t upper);
+    uint8_t *edge(size_t place) { return bytes.data() + bytes.size() - (edges - place) * edge_bytes; }
+};
+
+// The longest sheet with so many clocks, with no strict bound or guard and 4 nodes: much of the time of its plan goes to reading it.
+Made make_longest(int clocks);

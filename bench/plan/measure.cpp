@@ -58,7 +58,7 @@ void measure_stack(const std::vector<uint8_t> &bytes, Answer &answer, Stack &dee
     deepen(deepest.plan, [&] { call_proved(bytes, answer); });
     deepen(deepest.check, [&] { planner_check(bytes.data(), bytes.size()); });
     deepen(deepest.step, [&] {
-        uint32_t number;
+        uint64_t number;
         int64_t cost, reward, units;
         for (size_t at = 0; at < 50; at++)
             for (uint16_t code = 0; code <= PLANNER_MOVE; code++)

@@ -54,7 +54,7 @@ void lay_nodes(const Graph &graph, const std::vector<int64_t> &potentials, Buffe
     std::vector<uint32_t> order(graph.numbers.size());
     std::iota(order.begin(), order.end(), 0u);
     std::sort(order.begin(), order.end(), [&](uint32_t a, uint32_t b) { return graph.numbers[a] < graph.numbers[b]; });
-    std::fill(buffers.nodes.begin(), buffers.nodes.end(), 0u);
+    std::fill(buffers.nodes.begin(), buffers.nodes.end(), uint64_t(0));
     std::fill(buffers.potentials.begin(), buffers.potentials.end(), int64_t(0));
     for (size_t i = 0; i < order.size(); i++) {
         buffers.nodes[i] = graph.numbers[order[i]];
@@ -63,7 +63,7 @@ void lay_nodes(const Graph &graph, const std::vector<int64_t> &potentials, Buffe
 }
 
 void clear(Buffers &buffers) {
-    std::fill(buffers.nodes.begin(), buffers.nodes.end(), 0u);
+    std::fill(buffers.nodes.begin(), buffers.nodes.end(), uint64_t(0));
     std::fill(buffers.potentials.begin(), buffers.potentials.end(), int64_t(0));
     std::fill(buffers.steps.begin(), buffers.steps.end(), uint16_t(0));
 }

@@ -3,7 +3,7 @@
 #include "graph.hpp"
 
 struct Buffers {
-    std::vector<uint32_t> nodes = std::vector<uint32_t>(most_nodes);
+    std::vector<uint64_t> nodes = std::vector<uint64_t>(most_nodes);
     std::vector<int64_t> potentials = std::vector<int64_t>(most_nodes);
     std::vector<uint16_t> steps = std::vector<uint16_t>(most_nodes);
 };

@@ -6,11 +6,11 @@ constexpr int unit_code = 32, move_code = 33;
 
 struct Node {
     int location = 0, corner = 0;
-    std::array<int, 3> whole{}, rank{}; // a clock's class: 0 for no fraction, else the rank of its fraction
+    Clocks whole{}, rank{}; // a clock's class: 0 for no fraction, else the rank of its fraction
 };
 
-uint32_t number_of(const Node &node);
-Node node_of(uint32_t number);
+uint64_t number_of(const Sheet &sheet, const Node &node);
+Node node_of(const Sheet &sheet, uint64_t number);
 
 struct Step {
     bool allowed = false;

@@ -41,9 +41,9 @@ bool read_prices(Reader &r, int map, int &cost, int &reward) {
 }
 
 // A byte for each clock whose bit stands, from the map's bit `first` on.
-bool read_bytes(Reader &r, int map, int first, int least, std::array<int, 3> &values) {
+bool read_bytes(Reader &r, int map, int first, int least, int clocks, Clocks &values) {
     bool good = true;
-    for (int j = 0; j < 3; j++) {
+    for (int j = 0; j < clocks; j++) {
         if (!(map >> (first + j) & 1)) continue;
         values[j] = r.byte();
         good = good && least <= values[j] && values[j] <= 25;
@@ -58,14 +58,14 @@ int read_location(Reader &r, int clocks, Location &location) {
     if (!r.has(field_bytes(map))) return 5;
     if ((map & bounds) != bounds) return 7;
     bool good = read_prices(r, map, location.cost, location.reward);
-    good = read_bytes(r, map, 2, 0, location.upper) && good;
+    good = read_bytes(r, map, 2, 0, clocks, location.upper) && good;
     return good ? 0 : 8;
 }
 
-int read_edge(Reader &r, int clocks, int locations, Edge &edge) {
+int read_edge(Reader &r, const Sheet &sheet, Edge &edge) {
     if (!r.has(2)) return 5;
-    int map = r.word();
-    if (map & ~(7 | clock_bits(3, clocks) | clock_bits(6, clocks))) return 6;
+    int map = r.word(), clocks = sheet.clocks, uppers = 3 + edition_of(sheet.edition).clocks;
+    if (map & ~(7 | clock_bits(3, clocks) | clock_bits(uppers, clocks))) return 6;
     if (!r.has(2 + field_bytes(map))) return 5;
     edge.source = r.byte();
     edge.target = r.byte();
@@ -74,9 +74,10 @@ int read_edge(Reader &r, int clocks, int locations, Edge &edge) {
         edge.mask = r.byte();
         good = good && 1 <= edge.mask && edge.mask < 1 << clocks;
     }
-    good = read_bytes(r, map, 3, 1, edge.lower) && good;
-    good = read_bytes(r, map, 6, 0, edge.upper) && good;
+    good = read_bytes(r, map, 3, 1, clocks, edge.lower) && good;
+    good = read_bytes(r, map, uppers, 0, clocks, edge.upper) && good;
     if (!good) return 8;
+    int locations = int(sheet.locations.size());
     return edge.source < locations && edge.target < locations ? 0 : 9;
 }
 
@@ -95,11 +96,12 @@ bool some_equal(const std::vector<Record> &records) {
 } // namespace
 
 int read_sheet(const uint8_t *bytes, size_t length, Sheet &sheet) {
-    if (length < 4 || 580 < length) return 2;
+    if (length < 4 || 656 < length) return 2;
     Reader r{bytes, length, 0};
-    if (r.byte() != 1) return 3;
+    sheet.edition = r.byte();
+    if (sheet.edition < 1 || 2 < sheet.edition) return 3;
     int locations = r.byte(), clocks = r.byte(), edges = r.byte();
-    if (locations < 1 || 12 < locations || clocks < 1 || 3 < clocks || 32 < edges) return 4;
+    if (locations < 1 || 12 < locations || clocks < 1 || edition_of(sheet.edition).clocks < clocks || 32 < edges) return 4;
     sheet.clocks = clocks;
     sheet.locations.assign(size_t(locations), {});
     sheet.edges.assign(size_t(edges), {});
@@ -109,7 +111,7 @@ int read_sheet(const uint8_t *bytes, size_t length, Sheet &sheet) {
     records.reserve(sheet.edges.size());
     for (Edge &edge : sheet.edges) {
         size_t began = r.at;
-        if (int refusal = read_edge(r, clocks, locations, edge)) return refusal;
+        if (int refusal = read_edge(r, sheet, edge)) return refusal;
         records.push_back({bytes + began, r.at - began});
     }
     if (r.at != length) return 10;

@@ -10,6 +10,7 @@ struct Group {
     const char *name;
     int least_refusal, most_refusal;
     size_t least_nodes, most_nodes; // of the accepted
+    bool four_clocks = false;
 };
 
 constexpr size_t any = size_t(-1);
@@ -24,9 +25,14 @@ const Group groups[] = {
     {"refused with 12", 12, 12, 0, any},
     {"refused with 13 or 14", 13, 14, 0, any},
     {"refused by the check", 2, 11, 0, any},
+    {"four clocks, accepted", 0, 0, 0, any, true},
+    {"four clocks, refused with 12", 12, 12, 0, any, true},
 };
 
-bool belongs(const Group &group, const Plan &plan) {
+// The groups of up to three clocks hold no other sheets, so that they compare with times of before there were four.
+bool belongs(const Group &group, const Row &row) {
+    const Plan &plan = row.plan;
+    if (group.four_clocks != (row.clocks == most_clocks)) return false;
     return group.least_refusal <= plan.refusal && plan.refusal <= group.most_refusal && group.least_nodes <= plan.nodes &&
            plan.nodes <= group.most_nodes;
 }
@@ -35,7 +41,7 @@ void print_group(const Group &group, const std::vector<Row> &rows, double Row::*
     std::vector<double> logs;
     double proved = 0, beside = 0;
     for (const Row &row : rows) {
-        if (!belongs(group, row.plan)) continue;
+        if (!belongs(group, row)) continue;
         logs.push_back(std::log(row.proved / row.*other));
         proved += row.proved;
         beside += row.*other;

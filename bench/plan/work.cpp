@@ -79,7 +79,7 @@ int main() {
     std::printf("\nA work plan beside the plan\n\n| nodes | clocks | pairs of stem and cycle | plan, µs | work plan, µs | work plan / plan |\n");
     std::printf("|---|---|---|---|---|---|\n");
     run_row(make_bench(), 0);
-    run_row(make_longest(), 0);
+    for (int clocks : {3, 4}) run_row(make_longest(clocks), 0);
     for (int clocks : {1, 2, 3})
         for (unsigned nodes : {50, 200, 400}) run_row(make_sheet({clocks, 0, 0, 3.2, 3.8, true}, nodes), 0);
     for (int clocks : {2, 3}) {
@@ -87,5 +87,7 @@ int main() {
         for (unsigned nodes : {400, 1900}) run_row(make_sheet({clocks, 1, 32, 25, 30, true}, nodes), 0);
         for (unsigned nodes : {50, 400}) run_row(make_sheet({clocks, 0, 0, 3.2, 3.8}, nodes), 18);
     }
+    for (unsigned nodes : {400, 800, 1950}) run_row(make_sheet({4, 0, 0, 3.2, 3.8, true}, nodes), 0);
+    run_row(make_sheet({4, 1, 32, 25, 30, true}, 1900), 0);
     return print_summary() ? 0 : 1;
 }

@@ -25,6 +25,7 @@ bench=sheets/bench.txt
 planted same-sheet sheets/bench-gain.txt ''
 planted nodes-rise $bench 's/^  4 1 /  6 1 /; s/^  5 0 /  4 0 /'
 planted nodes-of-sheet $bench 's/^  32 2 /  33 2 /'
+planted nodes-of-sheet $bench 's/^nodes 7/nodes 8/; s/^stem /  4294967316 2\n&/'
 planted start-listed $bench '/^  0 0 /d; s/^nodes 7/nodes 6/'
 planted successors-listed $bench '/^  32 2 /d; s/^nodes 7/nodes 6/'
 planted ratio-range $bench 's/^ratio 3 1/ratio 3 0/'
@@ -36,6 +37,15 @@ planted lasso-length $bench 's/^cycle 4/cycle 0/; s/^  33 32 33 0$//'
 planted cycle-has-ratio $bench 's/^ratio 3 1/ratio 2 1/'
 planted potentials-hold $bench 's/^  32 2 /  32 3 /'
 planted potential-range $bench 's/^  32 2 /  32 1000000000000000 /'
+
+# the version is the edition of the sheet, by which node numbers are laid out
+expect "edition 1: its version" "$(head -1 "$work/bench.cert")" "planner certificate 1"
+planner plan sheets/ovens.txt --certificate "$work/ovens.cert" >/dev/null
+expect "edition 2: its version" "$(head -1 "$work/ovens.cert")" "planner certificate 2"
+holds "edition 2: its last node" "$(cat "$work/ovens.cert")" $'\n  6981427264 87  # location 3, clocks at 1 1 2 4\nstem '
+sed '1s/2/1/' "$work/ovens.cert" >"$work/cert"
+ends "the version of another edition" 3 planner verify sheets/ovens.txt "$work/cert"
+expect "the version of another edition" "$(head -1 "$work/err")" "$work/cert:1: certificate version 1 of a sheet of edition 2; expected version 2"
 
 # a text that is no certificate is a mistake, with its line
 sed 's/^nodes 7/nodes 8/' "$work/bench.cert" >"$work/cert"

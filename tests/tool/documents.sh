@@ -28,8 +28,13 @@ for file in README.md sheets/README.md tools/planner/README.md docs/*.md; do
 done
 [ "$run" -gt 5 ] || fail "only $run examples in the documents"
 
-# Bench as bytes and as a description, and the whole sheet of the guide
-grep -qx "$(planner hex sheets/bench.txt)" docs/SHEET.md || fail "docs/SHEET.md: other bytes of Bench"
+# Bench as bytes of both editions and as a description, the number of one of its nodes, and the whole sheet of the guide
+for name in bench bench-edition-2; do
+  grep -qx "$(planner hex sheets/$name.txt)" docs/SHEET.md || fail "docs/SHEET.md: other bytes of $name"
+  planner plan sheets/$name.txt --certificate "$work/cert" >/dev/null
+  numbers+=("$(sed -n '/^nodes /,/^stem /s/^  \([0-9]*\) 2  # location 0, clocks at 2$/\1/p' "$work/cert" | head -1)")
+done
+holds "docs/SHEET.md: a node of Bench" "$(cat docs/SHEET.md)" "has the number ${numbers[0]} in edition 1 and ${numbers[1]} in edition 2"
 sed -n '/^clocks x$/,/^```$/p' README.md | sed '$d' >"$work/readme.txt"
 expect "README.md: the description of Bench" "$(planner hex "$work/readme.txt")" "$(planner hex sheets/bench.txt)"
 

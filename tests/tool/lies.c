@@ -4,9 +4,9 @@
 #include <string.h>
 
 uint8_t true_planner_check(const uint8_t *sheet, size_t sheet_length);
-uint8_t true_planner_step(const uint8_t *sheet, size_t sheet_length, uint32_t node, uint16_t code, uint32_t *number,
+uint8_t true_planner_step(const uint8_t *sheet, size_t sheet_length, uint64_t node, uint16_t code, uint64_t *number,
                           int64_t *cost, int64_t *reward, int64_t *units);
-uint8_t true_planner_plan(const uint8_t *sheet, size_t sheet_length, uint32_t *nodes, size_t nodes_length,
+uint8_t true_planner_plan(const uint8_t *sheet, size_t sheet_length, uint64_t *nodes, size_t nodes_length,
                           int64_t *potentials, size_t potentials_length, uint16_t *steps, size_t steps_length,
                           int64_t *p, int64_t *q, int64_t *n, int64_t *s, int64_t *m, int64_t *units, int64_t *cost,
                           int64_t *reward);
@@ -22,7 +22,7 @@ uint8_t planner_check(const uint8_t *sheet, size_t sheet_length) {
     return lies("sound") ? 8 : true_planner_check(sheet, sheet_length);
 }
 
-uint8_t planner_step(const uint8_t *sheet, size_t sheet_length, uint32_t node, uint16_t code, uint32_t *number,
+uint8_t planner_step(const uint8_t *sheet, size_t sheet_length, uint64_t node, uint16_t code, uint64_t *number,
                      int64_t *cost, int64_t *reward, int64_t *units) {
     uint8_t refusal = true_planner_step(sheet, sheet_length, node, code, number, cost, reward, units);
     if (refusal == 0 && lies("price"))
@@ -41,7 +41,7 @@ static void lower_smallest(int64_t *potentials, int64_t n) {
         potentials[i] -= potentials[i] == smallest;
 }
 
-uint8_t planner_plan(const uint8_t *sheet, size_t sheet_length, uint32_t *nodes, size_t nodes_length,
+uint8_t planner_plan(const uint8_t *sheet, size_t sheet_length, uint64_t *nodes, size_t nodes_length,
                      int64_t *potentials, size_t potentials_length, uint16_t *steps, size_t steps_length, int64_t *p,
                      int64_t *q, int64_t *n, int64_t *s, int64_t *m, int64_t *units, int64_t *cost, int64_t *reward) {
     uint8_t refusal = true_planner_plan(sheet, sheet_length, nodes, nodes_length, potentials, potentials_length, steps,

@@ -41,6 +41,16 @@ for file in sheets/*.txt; do
 done
 [ "$sheets" -gt 20 ] || fail "only $sheets sheets"
 
+# the edition: 2 where there are four clocks or where it is asked for; decoding tells it where it does not follow from the clocks
+expect "four clocks: the edition" "$(planner hex sheets/ovens.txt | cut -c 1-6)" 020404
+expect "four clocks: checked" "$(planner check sheets/ovens.txt)" "sheets/ovens.txt: in order: 4 locations, 4 clocks, 12 edges; 128 bytes of edition 2"
+expect "four clocks: decoded" "$(planner encode sheets/ovens.txt | planner decode | head -1)" "clocks x y z w"
+expect "Bench: its bytes" "$(planner hex sheets/bench.txt)" 01010101050100050f000000050002000102
+expect "Bench in edition 2: its bytes" "$(planner hex sheets/bench-edition-2.txt)" 02010101050100050f000000050002000102
+expect "Bench in edition 2: decoded" "$(planner encode sheets/bench-edition-2.txt | planner decode | head -2)" $'edition 2\nclocks x'
+expect "Bench in edition 1: as nothing is asked for" "$({ echo edition 1; cat sheets/bench.txt; } | planner hex -)" "$(planner hex sheets/bench.txt)"
+expect "Bench in both editions" "$(planner plan sheets/bench-edition-2.txt | sed 1d)" "$(planner plan sheets/bench.txt | sed 1d)"
+
 runs=0
 for file in sheets/runs/*.txt; do
   runs=$((runs + 1))

@@ -6,7 +6,7 @@ for option in --help -h --version; do
   ends "$option" 0 planner $option
   [ -s "$work/out" ] && [ ! -s "$work/err" ] || fail "$option: not on standard output"
 done
-holds "--version" "$(planner --version)" "reads sheets of edition 1"
+holds "--version" "$(planner --version)" "reads sheets of editions 1 and 2"
 for command in plan check verify replay draw batch encode decode hex unhex; do
   ends "$command --help" 0 planner $command --help
   holds "$command --help" "$(head -1 "$work/out")" "usage: planner $command "

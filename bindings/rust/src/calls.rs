@@ -8,7 +8,7 @@
 #[derive(Clone, Copy, Debug, Default, PartialEq, Eq)]
 pub struct StepNumbers {
     /// The number of the node that the step leads to.
-    pub number: u32,
+    pub number: u64,
     /// What the step costs.
     pub cost: i64,
     /// What the step earns.
@@ -61,7 +61,7 @@ pub fn check(sheet: &[u8]) -> u8 {
 /// assert_eq!(step(&[], 0, 33, &mut numbers), 2);
 /// assert_eq!(numbers, StepNumbers::default());
 /// ```
-pub fn step(sheet: &[u8], node: u32, code: u16, numbers: &mut StepNumbers) -> u8 {
+pub fn step(sheet: &[u8], node: u64, code: u16, numbers: &mut StepNumbers) -> u8 {
     crate::exported::step(sheet, node, code, numbers)
 }
 
@@ -83,7 +83,7 @@ pub fn step(sheet: &[u8], node: u32, code: u16, numbers: &mut StepNumbers) -> u8
 /// ```
 pub fn plan(
     sheet: &[u8],
-    nodes: &mut [u32],
+    nodes: &mut [u64],
     potentials: &mut [i64],
     steps: &mut [u16],
     numbers: &mut PlanNumbers,

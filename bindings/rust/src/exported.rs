@@ -9,9 +9,9 @@ mod raw {
         pub fn planner_step(
             sheet: *const u8,
             sheet_length: usize,
-            node: u32,
+            node: u64,
             code: u16,
-            number: *mut u32,
+            number: *mut u64,
             cost: *mut i64,
             reward: *mut i64,
             units: *mut i64,
@@ -19,7 +19,7 @@ mod raw {
         pub fn planner_plan(
             sheet: *const u8,
             sheet_length: usize,
-            nodes: *mut u32,
+            nodes: *mut u64,
             nodes_length: usize,
             potentials: *mut i64,
             potentials_length: usize,
@@ -52,7 +52,7 @@ pub fn check(sheet: &[u8]) -> u8 {
     unsafe { raw::planner_check(sheet.as_ptr(), sheet.len()) }
 }
 
-pub fn step(sheet: &[u8], node: u32, code: u16, numbers: &mut StepNumbers) -> u8 {
+pub fn step(sheet: &[u8], node: u64, code: u16, numbers: &mut StepNumbers) -> u8 {
     // SAFETY: pointer and count are those of one slice, which is only read; each number is another
     // field of what is lent to be written.
     unsafe {
@@ -71,7 +71,7 @@ pub fn step(sheet: &[u8], node: u32, code: u16, numbers: &mut StepNumbers) -> u8
 
 pub fn plan(
     sheet: &[u8],
-    nodes: &mut [u32],
+    nodes: &mut [u64],
     potentials: &mut [i64],
     steps: &mut [u16],
     numbers: &mut PlanNumbers,

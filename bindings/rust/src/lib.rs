@@ -16,7 +16,7 @@
 //!
 //! The answers are those of the functions that `crates/exports` proves, in the static library that
 //! `rt staticlib exports` writes. The library allocates nothing and keeps no state; a plan takes up
-//! to 874 KB of the calling thread's stack and a work plan up to 903 KB (measured), and Rust's
+//! to 890 KB of the calling thread's stack and a work plan up to 927 KB (measured), and Rust's
 //! threads have 2 MB.
 #![deny(missing_docs)]
 #![deny(unsafe_code)]
@@ -33,7 +33,7 @@ pub use refusal::Refusal;
 pub use work::{Pairs, WorkPlan, WorkPlanner};
 
 /// The bytes of the longest sheet; a longer one is refused with 2.
-pub const LONGEST_SHEET: usize = 580;
+pub const LONGEST_SHEET: usize = 656;
 
 /// The entries that each buffer of a plan has at least; so many nodes are reachable at most.
 pub const LEAST_ENTRIES: usize = 2048;
@@ -51,7 +51,7 @@ pub const MOVE: u16 = 33;
 #[derive(Clone, Copy, Debug, PartialEq, Eq)]
 pub struct Step {
     /// The number of the node that the step leads to.
-    pub node: u32,
+    pub node: u64,
     /// What the step costs.
     pub cost: i64,
     /// What the step earns.
@@ -79,7 +79,7 @@ pub fn check(sheet: &[u8]) -> Result<(), Refusal> {
 /// assert_eq!(planner::step(&bench, 0, 0).unwrap_err().number(), 16);
 /// # Ok::<(), planner::Refusal>(())
 /// ```
-pub fn step(sheet: &[u8], node: u32, code: u16) -> Result<Step, Refusal> {
+pub fn step(sheet: &[u8], node: u64, code: u16) -> Result<Step, Refusal> {
     let mut numbers = calls::StepNumbers::default();
     Refusal::of(calls::step(sheet, node, code, &mut numbers))?;
     let calls::StepNumbers { number: node, cost, reward, units } = numbers;

@@ -6,7 +6,7 @@ use crate::{Refusal, LEAST_ENTRIES};
 /// The buffers that plans are written to. One planner can plan any number of sheets.
 #[derive(Clone)]
 pub struct Planner {
-    nodes: Box<[u32]>,
+    nodes: Box<[u64]>,
     potentials: Box<[i64]>,
     steps: Box<[u16]>,
 }
@@ -20,7 +20,7 @@ pub struct Plan<'a> {
     /// The lower number of the ratio, at least 1.
     pub q: i64,
     /// The numbers of the reachable nodes, rising.
-    pub nodes: &'a [u32],
+    pub nodes: &'a [u64],
     /// Their potentials, in the same order: the least weight of a walk from the start, where a step
     /// weighs q times its cost minus p times its reward. No run weighs less than the smallest of
     /// them, wherever it breaks off and in whatever fractions of a unit it waits.

@@ -25,8 +25,8 @@ impl Refusal {
     pub fn question(self) -> &'static str {
         match self.number() {
             1 => "Has each buffer at least 2,048 entries, those of a work plan 2,049?",
-            2 => "Is the length 4 to 580?",
-            3 => "Is the edition 1?",
+            2 => "Is the length 4 to 656?",
+            3 => "Is the edition 1 or 2?",
             4 => "Are the counts of locations, clocks and edges in range?",
             5 => "Are the bytes of each record there?",
             6 => "Are only permitted bits set in each record's map?",

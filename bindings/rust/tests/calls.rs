@@ -40,7 +40,7 @@ fn bench_is_planned() {
 fn the_lasso_is_walked_and_has_the_ratio() {
     let mut planner = Planner::default();
     let plan = planner.plan(&BENCH).expect("Bench is accepted");
-    let walk = |from: u32, codes: &[u16]| {
+    let walk = |from: u64, codes: &[u16]| {
         codes.iter().fold((from, 0, 0, 0), |(node, units, cost, reward), &code| {
             let next = step(&BENCH, node, code).expect("the lasso is a walk");
             (next.node, units + next.units, cost + next.cost, reward + next.reward)
@@ -126,7 +126,7 @@ fn checks_and_steps() {
     assert_eq!(step(&BENCH, 0, MOVE), Ok(Step { node: 5, cost: 0, reward: 0, units: 0 }));
     assert_eq!(step(&BENCH, 5, UNIT), Ok(Step { node: 4, cost: 1, reward: 0, units: 1 }));
     assert_eq!(step(&BENCH, 0, UNIT).expect_err("a clock has no fraction").number(), 16);
-    assert_eq!(step(&BENCH, u32::MAX, MOVE).expect_err("no node").number(), 15);
+    assert_eq!(step(&BENCH, u64::MAX, MOVE).expect_err("no node").number(), 15);
     assert_eq!(step(&[], 0, MOVE).expect_err("no sheet").number(), 2);
 }
 
@@ -153,7 +153,7 @@ fn every_number_is_written_by_a_refused_call() {
         let mut steps = [7; LEAST_ENTRIES];
         let answer = calls::plan(sheet, &mut nodes, &mut potentials, &mut steps, &mut numbers);
         assert_eq!((answer, numbers), (refusal, PlanNumbers::default()));
-        assert_eq!(nodes, [u32::from(entry); LEAST_ENTRIES]);
+        assert_eq!(nodes, [u64::from(entry); LEAST_ENTRIES]);
         assert_eq!(potentials, [i64::from(entry); LEAST_ENTRIES + 1]);
         assert_eq!(steps, [entry; LEAST_ENTRIES]);
     }

@@ -4,7 +4,7 @@
 mod show;
 
 fn case(name: &[u8], sheet: &[u8]) {
-    let mut nodes = [0u32; 2048];
+    let mut nodes = [0u64; 2048];
     let mut potentials = [0i64; 2048];
     let mut steps = [0u16; 2048];
     let answer = planner::plan(sheet, &mut nodes, &mut potentials, &mut steps);
@@ -116,6 +116,70 @@ fn lengths() {
         b"\x01\x01\x01\x01\x05\x01\x00\x05\x0F\x00\x00\x00\x05\x00\x02\x00\x01",
     );
     case(b"empty", b"");
+    let longest = [0u8; 656];
+    case(b"656 bytes, all 0", &longest);
+    let longer = [0u8; 657];
+    case(b"657 bytes, all 0", &longer);
+}
+
+// Changes by the edition: 01 has edition 2 with L 0 alone.
+fn editions() {
+    case(
+        b"edition 2",
+        b"\x02\x01\x01\x01\x05\x01\x00\x05\x0F\x00\x00\x00\x05\x00\x02\x00\x01\x02",
+    );
+    case(
+        b"edition 2 with L 0",
+        b"\x02\x00\x01\x01\x05\x01\x00\x05\x0F\x00\x00\x00\x05\x00\x02\x00\x01\x02",
+    );
+    case(
+        b"edition 3",
+        b"\x03\x01\x01\x01\x05\x01\x00\x05\x0F\x00\x00\x00\x05\x00\x02\x00\x01\x02",
+    );
+    case(
+        b"edition 1, four clocks",
+        b"\x01\x01\x04\x01\x05\x01\x00\x05\x0F\x00\x00\x00\x05\x00\x02\x00\x01\x02",
+    );
+    case(
+        b"edition 2, five clocks",
+        b"\x02\x01\x05\x01\x05\x01\x00\x05\x0F\x00\x00\x00\x05\x00\x02\x00\x01\x02",
+    );
+    case(
+        b"upper guard 05 by bit 6",
+        b"\x01\x01\x01\x01\x05\x01\x00\x05\x4F\x00\x00\x00\x05\x00\x02\x00\x01\x02\x05",
+    );
+    case(
+        b"edition 2, bit 6",
+        b"\x02\x01\x01\x01\x05\x01\x00\x05\x4F\x00\x00\x00\x05\x00\x02\x00\x01\x02\x05",
+    );
+}
+
+// Bench with four clocks, each with bound 05, and edition 2 with two locations, left in turn after 1 unit and after 2.
+fn four_clocks() {
+    case(
+        b"four clocks, all reset, lower guard of clock 0",
+        b"\x02\x01\x04\x01\x3D\x01\x00\x05\x05\x05\x05\x0F\x00\x00\x00\x05\x00\x02\x00\x0F\x02",
+    );
+    case(
+        b"four clocks, lower guard of clock 3",
+        b"\x02\x01\x04\x01\x3D\x01\x00\x05\x05\x05\x05\x47\x00\x00\x00\x05\x00\x02\x00\x0F\x02",
+    );
+    case(
+        b"four clocks, upper guard 01 of clock 3",
+        b"\x02\x01\x04\x01\x3D\x01\x00\x05\x05\x05\x05\x0F\x04\x00\x00\x05\x00\x02\x00\x0F\x02\x01",
+    );
+    case(
+        b"four clocks, clock 3 not reset",
+        b"\x02\x01\x04\x01\x3D\x01\x00\x05\x05\x05\x05\x0F\x00\x00\x00\x05\x00\x02\x00\x07\x02",
+    );
+    case(
+        b"edition 2, two locations in turn",
+        b"\x02\x02\x01\x02\x05\x01\x00\x05\x05\x02\x00\x07\x0C\x00\x00\x01\x01\x02\x0E\x00\x01\x00\x03\x00\x01\x04",
+    );
+    case(
+        b"four clocks, bit 11",
+        b"\x02\x01\x04\x01\x3D\x01\x00\x05\x05\x05\x05\x0F\x08\x00\x00\x05\x00\x02\x00\x0F\x02\x05",
+    );
 }
 
 fn main() {
@@ -128,8 +192,6 @@ fn main() {
     idle_edges();
     edges_twice();
     lengths();
-    case(
-        b"edition 2 with L 0",
-        b"\x02\x00\x01\x01\x05\x01\x00\x05\x0F\x00\x00\x00\x05\x00\x02\x00\x01\x02",
-    );
+    editions();
+    four_clocks();
 }

@@ -13,7 +13,7 @@ pub fn clear_u16(list: &mut [u16], from: usize)
     }
 }
 
-pub fn clear_u32(list: &mut [u32], from: usize)
+pub fn clear_u64(list: &mut [u64], from: usize)
     ensures { λ _. ⌜ now (list .exit) ≡ cleared 0 (now (list .entry)) from ⌝ }
 {
     let mut i = from;

@@ -8,7 +8,7 @@ mod show;
 mod text;
 
 fn check_case(line: &[u8]) {
-    let mut bytes = [0u8; 640];
+    let mut bytes = [0u8; 704];
     let n = text::unhex(line, 6, &mut bytes);
     let refusal = sheet::check(&bytes[..n]);
     io::print_decimal(STDOUT_FILENO, refusal as u64);
@@ -27,7 +27,7 @@ fn unknown() {
 }
 
 fn step_case(line: &[u8]) {
-    let mut bytes = [0u8; 640];
+    let mut bytes = [0u8; 704];
     let n = text::unhex(line, 5, &mut bytes);
     let from = 6 + 2 * n;
     if line.len() < from {

@@ -13,7 +13,7 @@ fn signed(z: i16) {
 pub(crate) fn stepped(r: Stepped) {
     io::print_decimal(STDOUT_FILENO, r.refusal as u64);
     io::write_all(STDOUT_FILENO, b" ");
-    io::print_decimal(STDOUT_FILENO, r.number as u64);
+    io::print_decimal(STDOUT_FILENO, r.number);
     io::write_all(STDOUT_FILENO, b" ");
     signed(r.cost);
     io::write_all(STDOUT_FILENO, b" ");

@@ -69,13 +69,13 @@ pub(crate) fn find(s: &[u8], from: usize, c: u8) -> usize
     i
 }
 
-// A decimal number of 32 bits.
-pub(crate) fn decimal(s: &[u8]) -> u32 {
+// A decimal number of 64 bits; one with more gives some other number.
+pub(crate) fn decimal(s: &[u8]) -> u64 {
     let mut x: u64 = 0;
     let mut i: usize = 0;
     while i < s.len() {
-        x = (10 * x + digit(s[i]) as u64) % 4294967296;
+        x = std::num::wrapping_add_u64(10 * (x % 1844674407370955162), digit(s[i]) as u64);
         i += 1;
     }
-    x as u32
+    x
 }

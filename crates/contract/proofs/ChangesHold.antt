@@ -1,9 +1,9 @@
 -- Every row of the table of changes to Bench holds: a certificate for each, and one computation that tests them all.
 use mathlib.Core.Path.{_≡_, refl}
 use mathlib.Core.Bool.{Bool, true, false, _&&_}
-use mathlib.Core.List.{List, [], _∷_, zipWith}
+use mathlib.Core.List.{List, [], _∷_, _++_, map, zipWith}
 use Prim.Native.Nat.{ℕ, zero, suc, _+_, _*_}
-use lib.IntN.{ℤ, pos}
+use lib.IntN.{ℤ, pos, negsuc, _+ℤ_}
 use lib.ListN.{take}
 use Rattle.automaton.specs.Tests.{every}
 use Rattle.automaton.specs.Ranks.{rank, closeUp, mask, largest}
@@ -28,9 +28,20 @@ use Rattle.contract.specs.Changes.{Row, AllHold, changes}
 
 -- ---- the nodes of Bench, for whole parts from h on and k units more: at h, and strictly between h and h + 1 at the corners 0 and 1
 
-ladder : ℕ → ℕ → List ℕ
-ladder h zero = (16 * h) ∷ []
-ladder h (suc k) = (16 * h) ∷ (16 * h + 4) ∷ (16 * h + 5) ∷ ladder (suc h) k
+-- by what a number grows by for a unit, and for the class 1
+ladder : ℕ → ℕ → ℕ → ℕ → List ℕ
+ladder unit class h zero = (unit * h) ∷ []
+ladder unit class h (suc k) = (unit * h) ∷ (unit * h + class) ∷ (unit * h + class + 1) ∷ ladder unit class (suc h) k
+
+-- in edition 1, in edition 2, and in edition 2 with four clocks that are always equal
+first : ℕ → List ℕ
+first = ladder 16 4 0
+
+second : ℕ → List ℕ
+second = ladder 64 8 0
+
+four : ℕ → List ℕ
+four = ladder 135274560 16909320 0
 
 -- their potentials where a unit weighs w
 heights : ℕ → ℕ → ℕ → List ℤ
@@ -43,9 +54,9 @@ upward zero = []
 upward (suc k) = 33 ∷ 32 ∷ 33 ∷ upward k
 
 -- the first n of these nodes, and from the start a cycle that earns and one without reward that makes money
-abbrev showing : ℕ → ℕ → ℕ → List ℕ → List ℕ → Certificate
-showing n k w cycle idle = record {
-  nodes = take n (ladder 0 k);
+abbrev showing : (ℕ → List ℕ) → ℕ → ℕ → ℕ → List ℕ → List ℕ → Certificate
+showing nodes n k w cycle idle = record {
+  nodes = take n (nodes k);
   potentials = take n (heights w 0 k);
   stem = [];
   cycle = cycle;
@@ -55,12 +66,12 @@ showing n k w cycle idle = record {
 }
 
 -- accepted
-abbrev climbing : ℕ → ℕ → ℕ → List ℕ → Certificate
-climbing n k w cycle = showing n k w cycle []
+abbrev climbing : (ℕ → List ℕ) → ℕ → ℕ → ℕ → List ℕ → Certificate
+climbing nodes n k w cycle = showing nodes n k w cycle []
 
 -- 13: no step earns, so 0 will do for every potential
-abbrev idling : ℕ → ℕ → Certificate
-idling n k = showing n k 0 [] []
+abbrev idling : (ℕ → List ℕ) → ℕ → ℕ → Certificate
+idling nodes n k = showing nodes n k 0 [] []
 
 -- where the check refuses the sheet
 abbrev nothing : Certificate
@@ -70,31 +81,78 @@ nothing = record { nodes = []; potentials = []; stem = []; cycle = []; idleStem 
 abbrev around : ℕ → List ℕ
 around edge = 33 ∷ 32 ∷ 33 ∷ edge ∷ []
 
+-- 13: clock 3 is never reset, so each round leaves it higher than the others, and the potentials fall by what the edge earns
+apart : ℕ → ℕ → ℕ → ℕ → ℕ → ℕ
+apart h k h3 k3 corner = corner + 16513 * (64 * h + 8 * k) + 2097152 * (64 * h3 + 8 * k3)
+
+falling : Certificate
+falling = record {
+  nodes = apart 0 0 0 0 0 ∷ apart 0 1 0 1 0 ∷ apart 0 1 0 1 1
+      ∷ apart 0 0 1 0 0 ∷ apart 1 0 1 0 0 ∷ apart 0 0 1 1 0 ∷ apart 0 0 1 1 1 ∷ apart 0 1 1 1 0 ∷ apart 0 1 1 1 1 ∷ apart 1 1 1 1 0 ∷ apart 1 1 1 1 1
+      ∷ apart 0 1 1 2 0 ∷ apart 0 1 1 2 1 ∷ apart 0 1 1 2 2
+      ∷ apart 0 0 2 0 0 ∷ apart 0 1 2 0 0 ∷ apart 0 1 2 0 1 ∷ apart 1 0 2 0 0 ∷ apart 2 0 2 0 0 ∷ [];
+  potentials = pos 0 ∷ pos 0 ∷ pos 0
+      ∷ negsuc 1 ∷ pos 0 ∷ negsuc 1 ∷ negsuc 1 ∷ negsuc 1 ∷ negsuc 1 ∷ pos 0 ∷ pos 0
+      ∷ negsuc 1 ∷ negsuc 1 ∷ negsuc 1
+      ∷ negsuc 3 ∷ negsuc 1 ∷ negsuc 1 ∷ negsuc 1 ∷ pos 0 ∷ [];
+  stem = [];
+  cycle = [];
+  idleStem = [];
+  idleCycle = [];
+  walks = [];
+}
+
+-- accepted: the ladder of two units in location 0, and that of three in location 1
+inTurn : Certificate
+inTurn = record {
+  nodes = second 2 ++ map (λ x. 2147483648 + x) (second 3);
+  potentials = heights 3 0 2 ++ map (λ z. pos 3 +ℤ z) (heights 6 0 3);
+  stem = [];
+  cycle = around 0 ++ upward 1 ++ 33 ∷ 32 ∷ 33 ∷ 1 ∷ [];
+  idleStem = [];
+  idleCycle = [];
+  walks = upward 2 ∷ (around 0 ++ upward 3) ∷ [];
+}
+
 -- in the order of the table
 certificates : List Certificate
-certificates = climbing 7 2 1 (around 0)
-    ∷ climbing 7 2 1 (33 ∷ 32 ∷ 33 ∷ 33 ∷ 0 ∷ [])
-    ∷ climbing 6 2 1 (around 0)
-    ∷ idling 3 1
-    ∷ idling 1 0
+certificates = climbing first 7 2 1 (around 0)
+    ∷ climbing first 7 2 1 (33 ∷ 32 ∷ 33 ∷ 33 ∷ 0 ∷ [])
+    ∷ climbing first 6 2 1 (around 0)
+    ∷ idling first 3 1
+    ∷ idling first 1 0
     ∷ nothing
-    ∷ climbing 7 2 2 (around 0)
-    ∷ climbing 7 2 1 (around 1)
-    ∷ idling 7 2
-    ∷ idling 7 2
-    ∷ nothing
-    ∷ nothing
-    ∷ climbing 37 12 1 (around 0)
-    ∷ nothing
-    ∷ idling 4 1
-    ∷ climbing 7 2 1 (around 0)
+    ∷ climbing first 7 2 2 (around 0)
+    ∷ climbing first 7 2 1 (around 1)
+    ∷ idling first 7 2
+    ∷ idling first 7 2
     ∷ nothing
     ∷ nothing
+    ∷ climbing first 37 12 1 (around 0)
     ∷ nothing
-    ∷ climbing 7 2 1 (around 0)
-    ∷ showing 7 2 0 (around 0) (around 1)
-    ∷ idling 7 2
+    ∷ idling first 4 1
+    ∷ climbing first 7 2 1 (around 0)
     ∷ nothing
+    ∷ nothing
+    ∷ nothing
+    ∷ climbing first 7 2 1 (around 0)
+    ∷ showing first 7 2 0 (around 0) (around 1)
+    ∷ idling first 7 2
+    ∷ nothing
+    ∷ nothing
+    ∷ nothing
+    ∷ nothing
+    ∷ climbing second 7 2 1 (around 0)
+    ∷ nothing
+    ∷ nothing
+    ∷ nothing
+    ∷ climbing first 7 2 1 (around 0)
+    ∷ nothing
+    ∷ climbing four 7 2 1 (around 0)
+    ∷ climbing four 7 2 1 (around 0)
+    ∷ idling four 7 2
+    ∷ falling
+    ∷ inTurn
     ∷ nothing
     ∷ nothing
     ∷ nothing
@@ -107,7 +165,7 @@ allCertified (r ∷ rows) [] = false
 allCertified (r ∷ rows) (c ∷ cs) = certifies (r .bytes) (r .says) c && allCertified rows cs
 
 computed : allCertified changes certificates ≡ true
-unfolding allCertified certificates ladder heights upward changes certifies
+unfolding allCertified certificates first second four apart falling inTurn ladder heights upward changes certifies
     showsAccepted showsNoneEarns showsIdleGain showsRefused isPassed passed isLasso keeps holdsAll eachStep isLowest rises indexOf allTrue
     meaning stepBy nodeOf listFrom number clocksFrom
     checkOf recordsCode restCode startCode distinctCode sameRecord edgeCode locationCode endsCode boundsCode fieldsCode fieldGood mapCode bitGood firstOf each

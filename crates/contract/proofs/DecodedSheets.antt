@@ -1,5 +1,5 @@
 -- Exploring by the decoded sheet is exploring by the bytes: the two step alike at every reachable node.
-use mathlib.Core.Path.{_≡_, refl, sym, ap, _∙_, subst}
+use mathlib.Core.Path.{_≡_, refl, sym, ap, ap₂, _∙_, subst}
 use mathlib.Core.Bool.{true}
 use mathlib.Core.List.{List}
 use mathlib.Core.Option.{Option, none, some, Option·map}
@@ -11,14 +11,14 @@ use Rattle.automaton.specs.Walks.{Reachable}
 use Rattle.automaton.proofs.Reached.{start-is-node}
 use Rattle.sheet.specs.Questions.{checkOf}
 use Rattle.sheet.specs.Decoded.{readOf}
-use Rattle.nodes.specs.Numbers.{firstLayout, number, isNumber}
+use Rattle.nodes.specs.Numbers.{Layout, number, isNumber, stepBy}
 use Rattle.nodes.specs.Meaning.{meaning, layoutOf}
 use Rattle.nodes.specs.Decoded.{decodedMeaning}
 use Rattle.nodes.proofs.Carried.{named, Source, reach-back}
 use Rattle.nodes.proofs.NumberLaws.{node-there, number-there, step-to-number}
 use Rattle.nodes.proofs.CheckedLaws.{sound, room}
 use Rattle.nodes.proofs.AgreeLaws.{number-steps-agree}
-use Rattle.nodes.proofs.DecodedLaws.{read-agrees}
+use Rattle.nodes.proofs.DecodedLaws.{read-agrees, read-layout}
 use Rattle.walks.specs.Walk.{at}
 use Rattle.contract.specs.Plan.{stepOn, startOf}
 use Rattle.contract.specs.Explored.{Found, Explored, Overfull, stepRead, startRead}
@@ -64,8 +64,8 @@ module _ (f h : ℕ → ℕ → Option (Priced ℕ)) (start : ℕ) (P : ℕ → 
 module _ (bytes : List ℕ) (ok : checkOf bytes ≡ 0) where
   same-start : startRead (readOf bytes) ≡ startOf bytes
   unfolding startNode
-  same-start = ap (λ (k : ℕ). number firstLayout (record { location = 0; region = record { whole = replicate k 0; class = replicate k 0 }; corner = 0 }))
-      (sym (read-agrees bytes ok .clocks))
+  same-start = ap₂ (λ (y : Layout) (k : ℕ). number y (record { location = 0; region = record { whole = replicate k 0; class = replicate k 0 }; corner = 0 }))
+      (read-layout bytes ok) (sym (read-agrees bytes ok .clocks))
 
   abbrev IsNumber : ℕ → Type 0
   IsNumber x = isNumber (layoutOf bytes) (meaning bytes) x ≡ true
@@ -77,8 +77,9 @@ module _ (bytes : List ℕ) (ok : checkOf bytes ≡ 0) where
   keeps = step-to-number (layoutOf bytes) (meaning bytes) (room bytes ok) (sound bytes ok)
 
   alike : (x code : ℕ) → IsNumber x → stepOn bytes x code ≡ stepRead (readOf bytes) x code
-  alike x code h = number-steps-agree firstLayout (meaning bytes) (decodedMeaning (readOf bytes)) (read-agrees bytes ok) (sound bytes ok) x code
-      (node-there firstLayout (meaning bytes) (room bytes ok) x h)
+  alike x code h = number-steps-agree (layoutOf bytes) (meaning bytes) (decodedMeaning (readOf bytes)) (read-agrees bytes ok) (sound bytes ok) x code
+      (node-there (layoutOf bytes) (meaning bytes) (room bytes ok) x h)
+      ∙ ap (λ (y : Layout). stepBy y (decodedMeaning (readOf bytes)) x code) (sym (read-layout bytes ok))
 
   pub explored-read : {g : Found} → Explored (stepRead (readOf bytes)) (startRead (readOf bytes)) g → Explored (stepOn bytes) (startOf bytes) g
   explored-read {g} x = explored-alike (stepOn bytes) (stepRead (readOf bytes)) (startOf bytes) IsNumber begins keeps alike

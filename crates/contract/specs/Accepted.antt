@@ -46,7 +46,7 @@ module _ {S : Type 0} (step : S → ℕ → Option (Priced S)) (start : S) (p : 
     pub reward-is : reward ≡ lasso .reward
 
 module _ (step : ℕ → ℕ → Option (Priced ℕ)) (start : ℕ) where
-  -- "n reachable nodes", "node numbers (32-bit, rising)": the first n entries are the reachable ones, each of them and no other
+  -- "n reachable nodes", "node numbers (32-bit, rising)", which "become 64 bits wide": the first n entries are the reachable ones, each of them and no other
   pub record NodeList (n : ℕ) (nodes : List ℕ) : Type 0 where
     pub rising : (i j : ℕ) → i < j → j < n → at nodes i < at nodes j
     pub reachable : (i : ℕ) → i < n → Reachable step start (at nodes i)

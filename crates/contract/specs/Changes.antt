@@ -2,7 +2,7 @@
 use mathlib.Core.List.{List, [], _∷_, _++_}
 use Prim.Native.Nat.{ℕ}
 use lib.IntN.{pos, negsuc}
-use lib.ListN.{set, take}
+use lib.ListN.{set, take, replicate}
 use Rattle.contract.specs.Answers.{Says, accepts, refuses, Holds}
 
 pub record Row : Type 0 where
@@ -42,6 +42,14 @@ withLower b s = set s 17 b
 abbrev pub withCost : ℕ → ℕ → List ℕ → List ℕ
 withCost low high s = set (set s 12 low) 13 high
 
+-- Bench in edition 2 with four clocks, each with the bound 05: edition, L, K and E; the location's map 3D, cost rate 1 and bounds
+abbrev pub fourClocks : List ℕ
+fourClocks = 2 ∷ 1 ∷ 4 ∷ 1 ∷ 61 ∷ 1 ∷ 0 ∷ 5 ∷ 5 ∷ 5 ∷ 5 ∷ []
+
+-- its edge, by the map's two bytes, the reset mask and the guards
+abbrev pub fourEdge : ℕ → ℕ → ℕ → List ℕ → List ℕ
+fourEdge low high mask guards = low ∷ high ∷ 0 ∷ 0 ∷ 5 ∷ 0 ∷ 2 ∷ 0 ∷ mask ∷ guards
+
 abbrev pub row : List ℕ → Says → Row
 row s a = record { bytes = s; says = a }
 
@@ -79,8 +87,8 @@ changes =
     ∷ row (withCost 251 255 bench) (accepts (negsuc 1) 1 7)
     -- lower byte 00
     ∷ row (withLower 0 bench) (refuses 8)
-    -- edition 2 with L 0
-    ∷ row (set (set bench 0 2) 1 0) (refuses 3)
+    -- edition 2 with L 0, which "now gives 4"
+    ∷ row (set (set bench 0 2) 1 0) (refuses 4)
     -- empty
     ∷ row [] (refuses 2)
     -- these are not 01's: a second edge equal but without reward, whose cycle costs 6
@@ -95,4 +103,26 @@ changes =
     ∷ row (withBound 0 (set header 3 2 ++ location ++ edge ++ edge)) (refuses 17)
     -- entered twice, with another edge between
     ∷ row (set header 3 3 ++ location ++ edge ++ set edge 6 3 ++ edge) (refuses 17)
+    -- edition 2, and 3
+    ∷ row (set bench 0 2) (accepts (pos 3) 1 7)
+    ∷ row (set bench 0 3) (refuses 3)
+    -- four clocks in edition 1, and five in edition 2
+    ∷ row (set bench 2 4) (refuses 4)
+    ∷ row (set (set bench 0 2) 2 5) (refuses 4)
+    -- bit 6 of the edge: in edition 1 the upper guard of clock 0, and in edition 2 the lower guard of clock 3
+    ∷ row (set bench 8 79 ++ 5 ∷ []) (accepts (pos 3) 1 7)
+    ∷ row (set (set bench 0 2) 8 79 ++ 5 ∷ []) (refuses 6)
+    -- four clocks: the edge resets all of them, and has the lower guard of clock 0; or that of clock 3; or an upper guard of clock 3 too, at most 0
+    ∷ row (fourClocks ++ fourEdge 15 0 15 (2 ∷ [])) (accepts (pos 3) 1 7)
+    ∷ row (fourClocks ++ fourEdge 71 0 15 (2 ∷ [])) (accepts (pos 3) 1 7)
+    ∷ row (fourClocks ++ fourEdge 15 4 15 (2 ∷ 1 ∷ [])) (refuses 13)
+    -- clock 3 is not reset
+    ∷ row (fourClocks ++ fourEdge 15 0 7 (2 ∷ [])) (refuses 13)
+    -- two locations in edition 2, left in turn after 1 unit and after 2
+    ∷ row (2 ∷ 2 ∷ 1 ∷ 2 ∷ location ++ 5 ∷ 2 ∷ 0 ∷ 7 ∷ 12 ∷ 0 ∷ 0 ∷ 1 ∷ 1 ∷ 2 ∷ 14 ∷ 0 ∷ 1 ∷ 0 ∷ 3 ∷ 0 ∷ 1 ∷ 4 ∷ []) (accepts (pos 5) 3 17)
+    -- a bit beyond those of edition 2
+    ∷ row (fourClocks ++ fourEdge 15 8 15 (2 ∷ 5 ∷ [])) (refuses 6)
+    -- as long as a sheet may be, and a byte more
+    ∷ row (replicate 656 0) (refuses 3)
+    ∷ row (replicate 657 0) (refuses 2)
     ∷ []

@@ -7,8 +7,8 @@ use lib.IntN.{ℤ}
 use Rattle.automaton.specs.Priced.{Priced}
 use Rattle.automaton.specs.Walks.{Reachable}
 use Rattle.sheet.specs.declared.Sheet.{Sheet}
-use Rattle.nodes.specs.Numbers.{firstLayout, stepBy, startNumber}
-use Rattle.nodes.specs.Decoded.{decodedMeaning}
+use Rattle.nodes.specs.Numbers.{stepBy, startNumber}
+use Rattle.nodes.specs.Decoded.{decodedMeaning, layoutIn}
 use Rattle.walks.specs.Walk.{at, atℤ}
 
 -- n nodes and m arcs, at the front of these lists
@@ -62,7 +62,7 @@ pub record Sorted (g : Found) (order nodes : List ℕ) : Type 0 where
 
 -- the steps of a decoded sheet, on node numbers, and its start
 abbrev pub stepRead : Sheet → ℕ → ℕ → Option (Priced ℕ)
-stepRead s = stepBy firstLayout (decodedMeaning s)
+stepRead s = stepBy (layoutIn s) (decodedMeaning s)
 
 abbrev pub startRead : Sheet → ℕ
-startRead s = startNumber firstLayout (decodedMeaning s)
+startRead s = startNumber (layoutIn s) (decodedMeaning s)

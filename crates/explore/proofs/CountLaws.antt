@@ -21,7 +21,7 @@ pub record Counts (n m t : ℕ) : Type 0 where
   pub turn : t ≡ 34 * (t / 34) + t % 34
   pub arcs : m < 69632
   pub less : 69632 - (t + 1) < 69632 - t
-  pub node-offset : Fits w64 (t / 34 * 4)
+  pub node-offset : Fits w64 (t / 34 * 8)
   pub next-turn : Fits w64 (t + 1)
   pub next-node : Fits w64 (n + 1)
   pub hint : Fits w16 n
@@ -49,7 +49,7 @@ turns-fit n h = record { fits = omega arith }
 pub edge-place : (t : ℕ) → t % 34 % 32 < 32
 edge-place t = omega arith
 
-pub edge-offset : (t : ℕ) → Fits w64 (t % 34 % 32 * 14)
+pub edge-offset : (t : ℕ) → Fits w64 (t % 34 % 32 * 16)
 edge-offset t = record { fits = omega arith }
 
 pub location-offset : (l : ℕ) → l < 256 → Fits w64 (l * 8)

@@ -1,27 +1,33 @@
 -- A place in a rising list, and an insertion there.
 use mathlib.Core.Path.{_≡_, refl, ap, _∙_}
+use mathlib.Core.Bool.{Bool, true, false}
 use mathlib.Core.List.{List}
-use Prim.Native.Nat.{ℕ, _+_, _-_, _*_, _/_, _≤_, _<_}
+use Prim.Native.Nat.{ℕ, _+_, _-_, _*_, _≤_, _<_}
 use native.Mathlib.Omega.{arith}
-use native.Mathlib.Nat.{mod-eq-of-lt}
+use native.Mathlib.Nat.{mul-one, mul-zero}
 use native.Mathlib.Decide.{ℕ-discrete, decLt}
-use lib.Bits.{bitAnd, and-comm, and-mask, and-shifted}
+use lib.Dec.{ltb}
+use borrow.Author.Tests.{lt-ltb, le-ltb}
 use lib.ListN.{length, set, length-set, drop}
 use lib.Seq.{getD-set-same, getD-set-other, drop-set-lt}
+use mir.Val.{boolByte}
 use Rattle.walks.specs.Walk.{at}
 use Rattle.explore.specs.Index.{Rising, Place, Inserted}
 
--- ---- bit 32 of v + 2 ^ 32 - x stands just where x is at most v, and a mask less by one has 32 ones, or that bit alone
-module _ (v x d : ℕ) (f : v < 4294967296) (g : x < 4294967296) (h : d < 4294967296) where
-  pub gap-ones : v < x → bitAnd d ((v + 4294967296 - x) / 4294967296 + 4294967295) ≡ d
-  gap-ones l =
-      let q : (v + 4294967296 - x) / 4294967296 + 4294967295 ≡ 4294967295 = omega arith in
-      ap (bitAnd d) q ∙ and-mask d 32 ∙ mod-eq-of-lt h
+-- ---- a number times a test
+module _ (v x d : ℕ) where
+  pub times-test : d * boolByte (ltb v x) ≤ d
+  times-test = by (ltb v x)
+    where
+      by : (b : Bool) → d * boolByte b ≤ d
+      by true = omega arith
+      by false = omega arith
 
-  pub gap-zeros : x ≤ v → bitAnd d ((v + 4294967296 - x) / 4294967296 + 4294967295) ≡ 0
-  gap-zeros l =
-      let q : (v + 4294967296 - x) / 4294967296 + 4294967295 ≡ 1 * 4294967296 = omega arith in
-      ap (bitAnd d) q ∙ and-comm d (1 * 4294967296) ∙ and-shifted 1 32 d h
+  pub times-one : v < x → d * boolByte (ltb v x) ≡ d
+  times-one h = ap (λ (b : Bool). d * boolByte b) (lt-ltb v x h) ∙ mul-one d
+
+  pub times-none : x ≤ v → d * boolByte (ltb v x) ≡ 0
+  times-none h = ap (λ (b : Bool). d * boolByte b) (le-ltb v x h) ∙ mul-zero d
 
 -- ---- the search: all before low is below x, all from high on is not
 pub record Bracket (K : List ℕ) (n x low high : ℕ) : Type 0 where

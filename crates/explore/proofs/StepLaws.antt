@@ -1,9 +1,10 @@
 -- The records of a step are those of the sheet; a list that is copied to the front of blank entries; the number of the start.
-use mathlib.Core.Path.{_≡_, refl, sym, ap, subst, _∙_}
+use mathlib.Core.Path.{_≡_, refl, sym, ap₂, subst, _∙_}
 use mathlib.Core.Bool.{Bool, true, false, _&&_}
 use mathlib.Core.Option.{none}
 use mathlib.Core.List.{List}
-use Prim.Native.Nat.{ℕ, zero, suc, _+_, _≤_, _<_}
+use Prim.Native.Nat.{ℕ, zero, suc, _+_, _^_, _≤_, _<_}
+use native.Mathlib.Nat.{zero-mod}
 use native.Mathlib.Omega.{arith}
 use native.Mathlib.Decide.{ℕ-discrete, decLt}
 use borrow.Author.Tests.{le-leb, ne-eqb}
@@ -16,8 +17,9 @@ use Rattle.sheet.specs.declared.Sheet.{Sheet}
 use Rattle.automaton.specs.Automaton.{Automaton}
 use Rattle.automaton.specs.Nodes.{startNode}
 use Rattle.automaton.specs.Steps.{step, edgeStep}
-use Rattle.nodes.specs.Numbers.{firstLayout, bitsOf, nodeOf, number, clocksFrom, startNumber, stepBy}
-use Rattle.nodes.specs.Decoded.{decodedMeaning, edgeIn, alone}
+use Rattle.nodes.specs.Numbers.{Layout, layoutAt, bitsOf, nodeOf, number, clocksFrom, startNumber, stepBy}
+use Rattle.nodes.specs.Decoded.{layoutIn, decodedMeaning, edgeIn, alone}
+use Rattle.nodes.proofs.LayoutLaws.{clock-zero}
 use Rattle.region.specs.Answers.{answered, refusedStep}
 use Rattle.region.specs.declared.Stepped.{Stepped}
 use Rattle.step.proofs.SheetLaws.{no-edge, no-code, edge-there, delay-there}
@@ -55,19 +57,19 @@ module _ {A : Type 0} (blank : A) (s : List A) (n : ℕ) where
   ]
 
 -- ---- by the records
-module _ (s : Sheet) (x k clocks count : ℕ) (edge : Edge) (location : Location) (r : Records s x k clocks count edge location) where
+module _ (s : Sheet) (x k edition clocks count : ℕ) (edge : Edge) (location : Location) (r : Records s x k edition clocks count edge location) where
   abbrev Is : Stepped → Type 0
-  Is v = v ≡ answered k (stepBy firstLayout (decodedMeaning s) x k)
+  Is v = v ≡ answered k (stepBy (layoutIn s) (decodedMeaning s) x k)
 
   pub no-edge-there : k < 32 → count ≤ k → Is (refusedStep 16)
   no-edge-there h l = no-edge s x k (omega arith) (omega (arith, r .edges-are))
 
-  pub edge-by-record : k < 32 → k < count → Is (answered 0 (stepBy firstLayout (alone clocks edge location) x 0))
-  edge-by-record h l = ap (λ (c : ℕ). answered 0 (stepBy firstLayout (alone c edge location) x 0)) (r .clocks-are)
+  pub edge-by-record : k < 32 → k < count → Is (answered 0 (stepBy (layoutAt edition) (alone edition clocks edge location) x 0))
+  edge-by-record h l = ap₂ (λ (e n : ℕ). answered 0 (stepBy (layoutAt e) (alone e n edge location) x 0)) (r .edition-is) (r .clocks-are)
       ∙ edge-there s x k (omega arith) (omega (arith, r .edges-are)) edge (r .edge-is h) location (r .target-is h)
 
-  pub delay-by-record : (c : ℕ) → k ≡ c → 31 < c → Is (answered c (stepBy firstLayout (alone clocks blankEdge location) x c))
-  delay-by-record c e h = ap (λ (n : ℕ). answered c (stepBy firstLayout (alone n blankEdge location) x c)) (r .clocks-are)
+  pub delay-by-record : (c : ℕ) → k ≡ c → 31 < c → Is (answered c (stepBy (layoutAt edition) (alone edition clocks blankEdge location) x c))
+  delay-by-record c e h = ap₂ (λ (e n : ℕ). answered c (stepBy (layoutAt e) (alone e n blankEdge location) x c)) (r .edition-is) (r .clocks-are)
       ∙ delay-there s x k c e h location (r .here-is (omega arith))
 
   pub no-step-there : 31 < k → (k ≡ 32 → ⊥) → (k ≡ 33 → ⊥) → Is (refusedStep 16)
@@ -78,16 +80,16 @@ both-false : (b c : Bool) → b && (false && c) ≡ false
 both-false true c = refl
 both-false false c = refl
 
-pub not-here : (s : Sheet) (x k : ℕ) → k < 32 → (edgeIn s k .source ≡ bitsOf x 4 20 → ⊥) → stepBy firstLayout (decodedMeaning s) x k ≡ none
+pub not-here : (s : Sheet) (x k : ℕ) → k < 32 → (edgeIn s k .source ≡ bitsOf x 4 (layoutIn s .location) → ⊥) → stepBy (layoutIn s) (decodedMeaning s) x k ≡ none
 unfolding stepBy step edgeStep decodedMeaning nodeOf
 not-here s x k h n = simp (le-leb k 31 (omega arith), ne-eqb _ _ n, both-false)
 
 -- ---- the number of the start
-clocks-zero : (j k : ℕ) → clocksFrom firstLayout j (replicate k 0) (replicate k 0) ≡ 0
+clocks-zero : (y : Layout) (j k : ℕ) → clocksFrom y j (replicate k 0) (replicate k 0) ≡ 0
 unfolding clocksFrom
-clocks-zero j zero = refl
-clocks-zero j (suc k) = let ih = clocks-zero (suc j) k in omega (arith, ih)
+clocks-zero y j zero = refl
+clocks-zero y j (suc k) = let ih = clocks-zero y (suc j) k in omega (arith, clock-zero y j, ih)
 
-pub start-zero : (A : Automaton) → startNumber firstLayout A ≡ 0
+pub start-zero : (y : Layout) (A : Automaton) → startNumber y A ≡ 0
 unfolding number startNode
-start-zero A = omega (arith, clocks-zero 0 (A .clocks))
+start-zero y A = omega (arith, zero-mod (2 ^ y .bits), clocks-zero y 0 (A .clocks))

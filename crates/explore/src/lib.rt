@@ -20,9 +20,9 @@ pub enum Outcome {
     Graph(usize, usize),
 }
 
-// Whether so many locations, clocks and edges are in range.
-fn counts_in_range(locations: u8, clocks: u8, edges: u8) -> bool
-    ensures { λ r. ⌜ (r ≡ true → CountsInRange locations clocks edges) ⌝ ∗ ⌜ (r ≡ false → CountsInRange locations clocks edges → ⊥) ⌝ }
+// Whether so many locations, clocks and edges are in range in an edition.
+fn counts_in_range(edition: u8, locations: u8, clocks: u8, edges: u8) -> bool
+    ensures { λ r. ⌜ (r ≡ true → CountsInRange edition locations clocks edges) ⌝ ∗ ⌜ (r ≡ false → CountsInRange edition locations clocks edges → ⊥) ⌝ }
 {
     if locations < 1 {
         return false;
@@ -33,7 +33,7 @@ fn counts_in_range(locations: u8, clocks: u8, edges: u8) -> bool
     if clocks < 1 {
         return false;
     }
-    if 3 < clocks {
+    if sheet::most_clocks(edition) < clocks {
         return false;
     }
     edges <= 32
@@ -80,9 +80,9 @@ fn long_enough(
 // Question 12. Nothing is written where the sheet or a buffer is not what a search needs.
 pub fn explore(
     sheet: Sheet,
-    nodes: &mut [u32],
-    sorted: &mut [u32],
-    order: &mut [u32],
+    nodes: &mut [u64],
+    sorted: &mut [u64],
+    order: &mut [u16],
     tree: &mut [usize],
     from: &mut [u16],
     to: &mut [u16],
@@ -99,7 +99,7 @@ pub fn explore(
     if 0 < sheet.refusal {
         return Outcome::Malformed;
     }
-    if !counts_in_range(sheet.locations, sheet.clocks, sheet.edges) {
+    if !counts_in_range(sheet.edition, sheet.locations, sheet.clocks, sheet.edges) {
         return Outcome::Malformed;
     }
     if !long_enough(

@@ -8,9 +8,9 @@ use sheet::Sheet;
 // Turn t is the code t % 34 at the node t / 34.
 pub(crate) fn search(
     sheet: Sheet,
-    nodes: &mut [u32],
-    sorted: &mut [u32],
-    order: &mut [u32],
+    nodes: &mut [u64],
+    sorted: &mut [u64],
+    order: &mut [u16],
     tree: &mut [usize],
     from: &mut [u16],
     to: &mut [u16],
@@ -42,12 +42,20 @@ pub(crate) fn search(
         t += 1;
         let x = nodes[i];
         let edge = edges[k % 32];
-        if crate::steps::elsewhere(x, k, edge.source) {
+        if crate::steps::elsewhere(x, sheet.edition, k, edge.source) {
             continue;
         }
-        let l = crate::steps::location_of(x, k, edge.target);
+        let l = crate::steps::location_of(x, sheet.edition, k, edge.target);
         let location = locations[l];
-        let s = crate::steps::step_at(x, k, sheet.clocks, sheet.edges, edge, location);
+        let s = crate::steps::step_at(
+            x,
+            k,
+            sheet.edition,
+            sheet.clocks,
+            sheet.edges,
+            edge,
+            location,
+        );
         if s.refusal != 0 {
             continue;
         }

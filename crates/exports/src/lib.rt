@@ -39,9 +39,9 @@ pub extern "C" fn planner_check(sheet: &[u8]) -> u8
 #[no_mangle]
 pub extern "C" fn planner_step(
     sheet: &[u8],
-    node: u32,
+    node: u64,
     code: u16,
-    number: &mut u32,
+    number: &mut u64,
     cost: &mut i64,
     reward: &mut i64,
     units: &mut i64,
@@ -64,7 +64,7 @@ pub extern "C" fn planner_step(
 #[no_mangle]
 pub extern "C" fn planner_plan(
     sheet: &[u8],
-    nodes: &mut [u32],
+    nodes: &mut [u64],
     potentials: &mut [i64],
     steps: &mut [u16],
     p: &mut i64,

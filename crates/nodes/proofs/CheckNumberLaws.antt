@@ -10,8 +10,8 @@ use Rattle.automaton.specs.Tests.{occurs, every}
 use Rattle.automaton.proofs.Tests.{by-bool, clash, &&-left, &&-right}
 use Rattle.sheet.specs.Bytes.{byteAt}
 use Rattle.sheet.specs.Maps.{stands}
-use Rattle.sheet.specs.Fields.{firstEdition, isWithin}
-use Rattle.sheet.specs.Records.{mapBytes, mapOf, boundAt, recordLength, recordAt, locationAt, locationsIn, clocksIn, edgesIn}
+use Rattle.sheet.specs.Fields.{boundBit, isWithin}
+use Rattle.sheet.specs.Records.{mapBytes, mapOf, boundAt, recordLength, recordAt, editionOf, locationAt, locationsIn, clocksIn, edgesIn}
 use Rattle.sheet.specs.Questions.{ask, orElse, each, firstOf, bitGood, mapCode, fieldGood, fieldsCode, boundsCode, endsCode, locationCode, edgeCode}
 use Rattle.sheet.specs.Questions.{distinctCode, startCode, restCode, recordsCode, checkOf, checkNumbers}
 use Rattle.sheet.specs.declared.fields.Kind.{Kind}
@@ -49,7 +49,7 @@ module _ (t : ℕ → Bool) (all : every (λ j x. eqb x 17 || t x) checkNumbers 
   map-passes : (kind : Kind) (k : ℕ) (s : List ℕ) (at : ℕ) → Passes (mapCode kind k s at)
   unfolding mapCode
   map-passes kind k s at = asked 5 (leb (at + mapBytes kind) (length s)) _ (number 5 refl)
-      (asked 6 (each 16 (bitGood kind k (mapOf kind s at))) _ (number 6 refl) (asked 5 (leb (at + recordLength kind s at) (length s)) 0 (number 5 refl) (number 0 refl)))
+      (asked 6 (each 16 (bitGood (editionOf s) kind k (mapOf kind s at))) _ (number 6 refl) (asked 5 (leb (at + recordLength kind s at) (length s)) 0 (number 5 refl) (number 0 refl)))
 
   fields-pass : (kind : Kind) (k : ℕ) (s : List ℕ) (at : ℕ) → Passes (fieldsCode kind k s at)
   unfolding fieldsCode
@@ -59,7 +59,7 @@ module _ (t : ℕ → Bool) (all : every (λ j x. eqb x 17 || t x) checkNumbers 
   unfolding locationCode boundsCode
   location-passes k s at = either (mapCode LocationRecord k s at) _ (map-passes LocationRecord k s at)
       (either (boundsCode k s at) (fieldsCode LocationRecord k s at)
-      (asked 7 (each k (λ j. stands (mapOf LocationRecord s at) (firstEdition .bound + j))) 0 (number 7 refl) (number 0 refl)) (fields-pass LocationRecord k s at))
+      (asked 7 (each k (λ j. stands (mapOf LocationRecord s at) (boundBit + j))) 0 (number 7 refl) (number 0 refl)) (fields-pass LocationRecord k s at))
 
   edge-passes : (k l : ℕ) (s : List ℕ) (at : ℕ) → Passes (edgeCode k l s at)
   unfolding edgeCode endsCode
@@ -77,8 +77,8 @@ module _ (t : ℕ → Bool) (all : every (λ j x. eqb x 17 || t x) checkNumbers 
 
   check-passes : (s : List ℕ) → Passes (distinctCode (edgesIn s) s (locationAt s (locationsIn s))) → Passes (checkOf s)
   unfolding checkOf
-  check-passes s d = asked 2 (isWithin (length s) 4 580) _ (number 2 refl) (asked 3 (eqb (byteAt s 0) 1) _ (number 3 refl)
-      (asked 4 (isWithin (locationsIn s) 1 12 && (isWithin (clocksIn s) 1 (firstEdition .clocks) && isWithin (edgesIn s) 0 32))
+  check-passes s d = asked 2 (isWithin (length s) 4 656) _ (number 2 refl) (asked 3 (isWithin (byteAt s 0) 1 2) _ (number 3 refl)
+      (asked 4 (isWithin (locationsIn s) 1 12 && (isWithin (clocksIn s) 1 (editionOf s .clocks) && isWithin (edgesIn s) 0 32))
       (recordsCode (clocksIn s) (locationsIn s) (edgesIn s) s) (number 4 refl) (records-pass (clocksIn s) (locationsIn s) (edgesIn s) s d)))
 
 -- question 17 answers 0 or 17

@@ -1,4 +1,4 @@
--- A sheet that passes the check means an automaton that is sound, whose nodes have room in edition 1's numbers, and whose prices are small.
+-- A sheet that passes the check means an automaton that is sound, whose nodes have room in its edition's numbers, and whose prices are small.
 use mathlib.Core.Path.{_≡_, refl, subst}
 use mathlib.Core.Bool.{Bool, true, _&&_, not}
 use mathlib.Core.List.{List, zipWith}
@@ -15,21 +15,21 @@ use Rattle.automaton.specs.Automaton.{inBounds}
 use Rattle.automaton.specs.Nodes.{startNode, Sound}
 use Rattle.automaton.proofs.Tests.{&&-right, &&-intro}
 use Rattle.sheet.specs.Bytes.{byteAt, signedOf}
-use Rattle.sheet.specs.Fields.{firstEdition, costInRange, inRange, fieldOf}
-use Rattle.sheet.specs.Records.{fieldAt, boundAt, recordAt, locationAt, edgeAt, locationsIn, clocksIn, edgesIn}
+use Rattle.sheet.specs.Fields.{Edition, boundBit, upperBit, costInRange, inRange, fieldOf}
+use Rattle.sheet.specs.Records.{fieldAt, boundAt, recordAt, editionOf, locationAt, edgeAt, locationsIn, clocksIn, edgesIn}
 use Rattle.sheet.specs.Questions.{orElse, each, firstOf, whereThere, fieldGood, mapCode, fieldsCode, boundsCode, endsCode, locationCode, edgeCode, distinctCode, startCode}
 use Rattle.sheet.specs.Questions.{restCode, recordsCode, checkOf}
 use Rattle.sheet.specs.declared.fields.Kind.{Kind}
 use Rattle.sheet.specs.declared.fields.Kind.the-variants.{LocationRecord, EdgeRecord}
 use Rattle.sheet.specs.declared.fields.Field.the-variants.{Upper}
-use Rattle.sheet.proofs.FieldLaws.{bounds, location-upper, edge-upper}
+use Rattle.sheet.proofs.FieldLaws.{bounds, edition-clocks, location-upper, edge-upper}
 use Rattle.sheet.proofs.QuestionLaws.{each-at}
 use Rattle.sheet.proofs.AcceptedLaws.{ask-yes, ask-rest, Header, header}
-use Rattle.nodes.specs.Numbers.{firstLayout}
-use Rattle.nodes.specs.Meaning.{meaning}
+use Rattle.nodes.specs.Meaning.{meaning, layoutOf}
 use Rattle.nodes.specs.Decoded.{guardOf}
 use Rattle.nodes.proofs.QuestionLaws.{or-left, or-right, first-at, or-absent}
 use Rattle.nodes.proofs.NumberLaws.{Room}
+use Rattle.nodes.proofs.LayoutLaws.{room-for}
 
 -- ---- the records
 
@@ -84,13 +84,13 @@ edge-ends k l s at h =
 
 module _ (kind : Kind) (k : ℕ) (s : List ℕ) (at : ℕ) where
   -- a field of bit b whose range keeps v in P, and what stands for an absent one
-  field-value : {P : ℕ → Type 0} (b d : ℕ) → fieldGood kind k s at b ≡ true → ((v : ℕ) → inRange k (fieldOf firstEdition kind b) v ≡ true → P v) → P d
+  field-value : {P : ℕ → Type 0} (b d : ℕ) → fieldGood kind k s at b ≡ true → ((v : ℕ) → inRange k (fieldOf (editionOf s) kind b) v ≡ true → P v) → P d
       → P (Option·getD (fieldAt kind s at b) d)
   unfolding fieldGood
-  field-value b d h f z = or-absent (inRange k (fieldOf firstEdition kind b)) (fieldAt kind s at b) d h f z
+  field-value b d h f z = or-absent (inRange k (fieldOf (editionOf s) kind b)) (fieldAt kind s at b) d h f z
 
   -- an upper byte is at most 25
-  upper-value : (P : ℕ → Type 0) (b d j : ℕ) → fieldGood kind k s at b ≡ true → fieldOf firstEdition kind b ≡ Upper j → ((v : ℕ) → v ≤ 25 → P v) → P d
+  upper-value : (P : ℕ → Type 0) (b d j : ℕ) → fieldGood kind k s at b ≡ true → fieldOf (editionOf s) kind b ≡ Upper j → ((v : ℕ) → v ≤ 25 → P v) → P d
       → P (Option·getD (fieldAt kind s at b) d)
   unfolding inRange
   upper-value P b d j h e f z = field-value b d h (λ v i. f v (bounds v 0 25 (subst (λ y. inRange k y v ≡ true) e i) .1)) z
@@ -100,15 +100,15 @@ abs-cost : (z : ℤ) → costInRange z ≡ true → natAbs z ≤ 10000
 unfolding costInRange
 abs-cost z h = leb-true (natAbs z) 10000 (&&-right (not (eqb (natAbs z) 0)) (leb (natAbs z) 10000) h)
 
-cost-of : (kind : Kind) (k v : ℕ) → inRange k (fieldOf firstEdition kind 0) v ≡ true → natAbs (signedOf v) ≤ 10000
+cost-of : (y : Edition) (kind : Kind) (k v : ℕ) → inRange k (fieldOf y kind 0) v ≡ true → natAbs (signedOf v) ≤ 10000
 unfolding inRange fieldOf
-cost-of LocationRecord k v h = abs-cost (signedOf v) h
-cost-of EdgeRecord k v h = abs-cost (signedOf v) h
+cost-of y LocationRecord k v h = abs-cost (signedOf v) h
+cost-of y EdgeRecord k v h = abs-cost (signedOf v) h
 
-reward-of : (kind : Kind) (k v : ℕ) → inRange k (fieldOf firstEdition kind 1) v ≡ true → v ≤ 10000
+reward-of : (y : Edition) (kind : Kind) (k v : ℕ) → inRange k (fieldOf y kind 1) v ≡ true → v ≤ 10000
 unfolding inRange fieldOf
-reward-of LocationRecord k v h = bounds v 1 10000 h .1
-reward-of EdgeRecord k v h = bounds v 1 10000 h .1
+reward-of y LocationRecord k v h = bounds v 1 10000 h .1
+reward-of y EdgeRecord k v h = bounds v 1 10000 h .1
 
 no-cost : natAbs (signedOf 0) ≤ 10000
 unfolding signedOf
@@ -140,19 +140,23 @@ module _ (s : List ℕ) (ok : checkOf s ≡ 0) where
   abbrev all : Parts s
   all = parts s (header s ok .records)
 
+  -- the edition has the sheet's clocks, and at most four
+  few : (clocksIn s ≤ editionOf s .clocks) × (editionOf s .clocks ≤ 4)
+  few = (head .clocks .1, edition-clocks (byteAt s 0))
+
   bound-value : (l j : ℕ) → l < locationsIn s → j < clocksIn s → boundAt s (locationAt s l) j ≤ 25
-  bound-value l j h i = upper-value LocationRecord (clocksIn s) s (locationAt s l) (λ v. v ≤ 25) (firstEdition .bound + j) 0 (firstEdition .bound + j - 2)
-      (location-good (clocksIn s) s (locationAt s l) (all .locations l h) (firstEdition .bound + j) (omega (arith, head .clocks .1)))
-      (location-upper (firstEdition .bound + j) (omega arith) (omega (arith, head .clocks .1))) (λ v b. b) (omega arith)
+  bound-value l j h i = upper-value LocationRecord (clocksIn s) s (locationAt s l) (λ v. v ≤ 25) (boundBit + j) 0 (boundBit + j - 2)
+      (location-good (clocksIn s) s (locationAt s l) (all .locations l h) (boundBit + j) (omega (arith, few)))
+      (location-upper (editionOf s) (boundBit + j) (omega arith) (omega (arith, few))) (λ v b. b) (omega arith)
 
   pub guard-value : (e j : ℕ) → e < edgesIn s → j < clocksIn s
-      → fieldAt EdgeRecord s (edgeAt s e) (firstEdition .upper + j) ≡ guardOf (Option·getD (fieldAt EdgeRecord s (edgeAt s e) (firstEdition .upper + j)) 255)
+      → fieldAt EdgeRecord s (edgeAt s e) (upperBit (editionOf s) + j) ≡ guardOf (Option·getD (fieldAt EdgeRecord s (edgeAt s e) (upperBit (editionOf s) + j)) 255)
   unfolding fieldGood inRange
-  guard-value e j h i = told-absent (inRange (clocksIn s) (fieldOf firstEdition EdgeRecord (firstEdition .upper + j)))
-      (fieldAt EdgeRecord s (edgeAt s e) (firstEdition .upper + j))
-      (edge-good (clocksIn s) (locationsIn s) s (edgeAt s e) (all .edges e h) (firstEdition .upper + j) (omega (arith, head .clocks .1)))
+  guard-value e j h i = told-absent (inRange (clocksIn s) (fieldOf (editionOf s) EdgeRecord (upperBit (editionOf s) + j)))
+      (fieldAt EdgeRecord s (edgeAt s e) (upperBit (editionOf s) + j))
+      (edge-good (clocksIn s) (locationsIn s) s (edgeAt s e) (all .edges e h) (upperBit (editionOf s) + j) (omega (arith, few)))
       (λ v q. bounds v 0 25 (subst (λ y. inRange (clocksIn s) y v ≡ true)
-      (edge-upper (firstEdition .upper + j) (omega arith) (omega (arith, head .clocks .1))) q) .1)
+      (edge-upper (editionOf s) (upperBit (editionOf s) + j) (omega arith) (omega (arith, few))) q) .1)
 
   pub sound : Sound (meaning s)
   unfolding meaning inBounds startNode recordAt
@@ -167,11 +171,11 @@ module _ (s : List ℕ) (ok : checkOf s ≡ 0) where
   unfolding meaning
   bounds-small = bound-value
 
-  pub room : Room firstLayout (meaning s)
+  pub room : Room (layoutOf s) (meaning s)
   unfolding meaning
   room = record {
-    clocks = omega (arith, head .clocks .1);
-    ranks = omega (arith, head .clocks .1);
+    clocks = room-for (byteAt s 0) (clocksIn s) (head .clocks .1) .0;
+    ranks = room-for (byteAt s 0) (clocksIn s) (head .clocks .1) .1;
     locations = omega (arith, head .locations .1);
     bounds = λ l j h i. omega (arith, bound-value l j h i);
   }
@@ -183,9 +187,9 @@ module _ (s : List ℕ) (ok : checkOf s ≡ 0) where
   rates-small l h =
       let good = location-good (clocksIn s) s (locationAt s l) (all .locations l h) in (
         field-value LocationRecord (clocksIn s) s (locationAt s l) {P = λ v. natAbs (signedOf v) ≤ 10000} 0 0 (good 0 (omega arith))
-            (cost-of LocationRecord (clocksIn s)) no-cost,
+            (cost-of (editionOf s) LocationRecord (clocksIn s)) no-cost,
         field-value LocationRecord (clocksIn s) s (locationAt s l) {P = λ v. v ≤ 10000} 1 0 (good 1 (omega arith))
-            (reward-of LocationRecord (clocksIn s)) (omega arith),
+            (reward-of (editionOf s) LocationRecord (clocksIn s)) (omega arith),
       )
 
   pub prices-small : (e : ℕ) → e < meaning s .edges → (natAbs (meaning s .cost e) ≤ 10000) × (meaning s .reward e ≤ 10000)
@@ -193,7 +197,7 @@ module _ (s : List ℕ) (ok : checkOf s ≡ 0) where
   prices-small e h =
       let good = edge-good (clocksIn s) (locationsIn s) s (edgeAt s e) (all .edges e h) in (
         field-value EdgeRecord (clocksIn s) s (edgeAt s e) {P = λ v. natAbs (signedOf v) ≤ 10000} 0 0 (good 0 (omega arith))
-            (cost-of EdgeRecord (clocksIn s)) no-cost,
+            (cost-of (editionOf s) EdgeRecord (clocksIn s)) no-cost,
         field-value EdgeRecord (clocksIn s) s (edgeAt s e) {P = λ v. v ≤ 10000} 1 0 (good 1 (omega arith))
-            (reward-of EdgeRecord (clocksIn s)) (omega arith),
+            (reward-of (editionOf s) EdgeRecord (clocksIn s)) (omega arith),
       )

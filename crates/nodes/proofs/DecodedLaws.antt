@@ -3,42 +3,47 @@ use mathlib.Core.Path.{_≡_, refl, sym, ap, _∙_, subst}
 use mathlib.Core.Bool.{Bool, true, false, cond, _&&_}
 use mathlib.Core.List.{List}
 use mathlib.Core.Option.{none, Option·getD, Option·map}
-use Prim.Native.Nat.{ℕ, zero, suc, _+_, _/_, _^_, _≤_, _<_}
-use native.Mathlib.Nat.{add-zero, mod-lt}
+use Prim.Native.Nat.{ℕ, _+_, _/_, _^_, _≤_, _<_}
+use native.Mathlib.Nat.{mod-lt}
 use native.Mathlib.Omega.{arith}
 use borrow.Author.Tests.{eqb-true, eq-eqb, lt-ltb, lt-leb}
 use lib.Dec.{leb, ltb, eqb, lit<}
 use lib.ListN.{length, getD}
+use Rattle.integers.proofs.Lists.{any-default}
 use Rattle.automaton.specs.Automaton.{inBounds, inGuards}
 use Rattle.automaton.specs.Ranks.{largest}
 use Rattle.automaton.specs.Nodes.{Node, usesEachRank, inside, isNode}
 use Rattle.automaton.specs.Steps.{edgeStep, unitStep, moveStep, step}
 use Rattle.automaton.proofs.Codes.{step-edge}
 use Rattle.automaton.proofs.Tests.{by-bool}
+use Rattle.sheet.specs.Bytes.{byteAt}
 use Rattle.sheet.specs.Maps.{stands}
-use Rattle.sheet.specs.Fields.{firstEdition}
-use Rattle.sheet.specs.Records.{fieldAt, recordAt, locationAt, edgeAt, locationsIn, clocksIn, edgesIn}
+use Rattle.sheet.specs.Fields.{boundBit, lowerBit, upperBit}
+use Rattle.sheet.specs.Records.{fieldAt, recordAt, editionOf, locationAt, edgeAt, locationsIn, clocksIn, edgesIn}
 use Rattle.sheet.specs.Questions.{checkOf}
-use Rattle.sheet.specs.Decoded.{clockBytes, locationOf, edgeOf, blankLocation, blankEdge, locationsOf, edgesOf, decodedSheet, refusedSheet, readOf}
+use Rattle.sheet.specs.Decoded.{filled, clockBytes, locationOf, edgeOf, blankLocation, blankEdge, locationsOf, edgesOf, decodedSheet, refusedSheet, readOf}
 use Rattle.sheet.specs.declared.fields.Kind.{Kind}
 use Rattle.sheet.specs.declared.fields.Kind.the-variants.{LocationRecord, EdgeRecord}
 use Rattle.sheet.specs.declared.Location.{Location}
 use Rattle.sheet.specs.declared.Edge.{Edge}
 use Rattle.sheet.specs.declared.Sheet.{Sheet}
 use Rattle.sheet.proofs.AcceptedLaws.{header}
-use Rattle.sheet.proofs.DecodeLaws.{filled-at}
+use Rattle.sheet.proofs.FieldLaws.{edition-clocks}
+use Rattle.sheet.proofs.DecodeLaws.{filled-at, filled-length}
 use Rattle.nodes.specs.Numbers.{Layout, number, nodeOf, isNumber, stepBy}
-use Rattle.nodes.specs.Meaning.{meaning}
-use Rattle.nodes.specs.Decoded.{fewClocks, guardOf, boundIn, lowerIn, upperIn, locationIn, edgeIn, decodedMeaning, alone}
+use Rattle.nodes.specs.Meaning.{meaning, layoutOf}
+use Rattle.nodes.specs.Decoded.{fewClocks, layoutIn, guardOf, boundIn, lowerIn, upperIn, locationIn, edgeIn, decodedMeaning, alone}
 use Rattle.nodes.proofs.Carried.{named}
 use Rattle.nodes.proofs.AgreeLaws.{Agree}
 use Rattle.nodes.proofs.CheckedLaws.{guard-value}
 
-pub clock-byte : (kind : Kind) (s : List ℕ) (at b d j : ℕ) → j < 3 → Option·getD (fieldAt kind s at (b + j)) d ≡ getD (clockBytes kind s at b d) j 0
-clock-byte kind s at b d zero h = ap (λ (x : ℕ). Option·getD (fieldAt kind s at x) d) (add-zero b)
-clock-byte kind s at b d (suc zero) h = refl
-clock-byte kind s at b d (suc (suc zero)) h = refl
-clock-byte kind s at b d (suc (suc (suc j))) h = absurd (omega arith)
+pub clock-byte : (kind : Kind) (s : List ℕ) (at b d j : ℕ) → j < editionOf s .clocks → Option·getD (fieldAt kind s at (b + j)) d ≡ getD (clockBytes kind s at b d) j 0
+unfolding clockBytes
+clock-byte kind s at b d j h =
+    let f : ℕ → ℕ = λ i. Option·getD (fieldAt kind s at (b + i)) d in
+    let few = edition-clocks (byteAt s 0) in
+    sym (filled-at f d 4 (editionOf s .clocks) j few h)
+    ∙ any-default (filled f d 4 (editionOf s .clocks)) j d 0 (omega (arith, few, filled-length f d 4 (editionOf s .clocks)))
 
 -- the decoded sheet carries the refusal of the check
 pub read-refusal : (bytes : List ℕ) → readOf bytes .refusal ≡ checkOf bytes
@@ -51,6 +56,10 @@ pub read-passed : (s : List ℕ) → checkOf s ≡ 0 → readOf s ≡ decodedShe
 unfolding readOf
 read-passed s ok = ap (λ (t : Bool). cond t (decodedSheet s) (refusedSheet (checkOf s))) (eq-eqb (checkOf s) 0 ok)
 
+-- what was read has the layout of the bytes
+pub read-layout : (s : List ℕ) → checkOf s ≡ 0 → layoutIn (readOf s) ≡ layoutOf s
+read-layout s ok = ap layoutIn (read-passed s ok)
+
 module _ (s : List ℕ) (ok : checkOf s ≡ 0) where
   location-there : (l : ℕ) → l < locationsIn s → locationIn (decodedSheet s) l ≡ locationOf s (locationAt s l)
   unfolding locationsOf
@@ -60,23 +69,23 @@ module _ (s : List ℕ) (ok : checkOf s ≡ 0) where
   unfolding edgesOf
   edge-there e h = filled-at (λ i. edgeOf s (recordAt EdgeRecord s (locationAt s (locationsIn s)) i)) blankEdge 32 (edgesIn s) e (header s ok .edges) h
 
-  three : clocksIn s ≤ 3
-  three = header s ok .clocks .1
+  few : clocksIn s ≤ editionOf s .clocks
+  few = header s ok .clocks .1
 
   decoded-agrees : Agree (meaning s) (decodedMeaning (decodedSheet s))
   unfolding meaning decodedMeaning
   decoded-agrees = record {
     locations = refl;
-    clocks = omega (arith, three);
+    clocks = omega (arith, few);
     edges = refl;
-    bound = λ l j h i. clock-byte LocationRecord s (locationAt s l) (firstEdition .bound) 0 j (omega (arith, three))
+    bound = λ l j h i. clock-byte LocationRecord s (locationAt s l) boundBit 0 j (omega (arith, few))
         ∙ sym (ap (λ (x : Location). boundIn x j) (location-there l h));
     costRate = λ l h. sym (ap (λ (x : Location). x .cost) (location-there l h));
     rewardRate = λ l h. sym (ap (λ (x : Location). x .reward) (location-there l h));
     source = λ e h. sym (ap (λ (x : Edge). x .source) (edge-there e h));
     target = λ e h. sym (ap (λ (x : Edge). x .target) (edge-there e h));
-    lower = λ e j h i. clock-byte EdgeRecord s (edgeAt s e) (firstEdition .lower) 0 j (omega (arith, three)) ∙ sym (ap (λ (x : Edge). lowerIn x j) (edge-there e h));
-    upper = λ e j h i. guard-value s ok e j h i ∙ ap guardOf (clock-byte EdgeRecord s (edgeAt s e) (firstEdition .upper) 255 j (omega (arith, three)))
+    lower = λ e j h i. clock-byte EdgeRecord s (edgeAt s e) lowerBit 0 j (omega (arith, few)) ∙ sym (ap (λ (x : Edge). lowerIn x j) (edge-there e h));
+    upper = λ e j h i. guard-value s ok e j h i ∙ ap guardOf (clock-byte EdgeRecord s (edgeAt s e) (upperBit (editionOf s)) 255 j (omega (arith, few)))
         ∙ sym (ap (λ (x : Edge). upperIn x j) (edge-there e h));
     reset = λ e j h i. sym (ap (λ (x : Edge). stands (x .reset) j) (edge-there e h));
     cost = λ e h. sym (ap (λ (x : Edge). x .cost) (edge-there e h));
@@ -90,15 +99,15 @@ module _ (s : List ℕ) (ok : checkOf s ≡ 0) where
 -- ---- the records at hand
 
 module _ (s : Sheet) (u : Node) where
-  edge-alone : (e : ℕ) → e < s .edges → edgeStep (decodedMeaning s) u e ≡ edgeStep (alone (s .clocks) (edgeIn s e) (locationIn s (edgeIn s e .target))) u 0
+  edge-alone : (e : ℕ) → e < s .edges → edgeStep (decodedMeaning s) u e ≡ edgeStep (alone (s .edition) (s .clocks) (edgeIn s e) (locationIn s (edgeIn s e .target))) u 0
   unfolding edgeStep decodedMeaning alone inBounds inGuards
   edge-alone e h = simp (lt-ltb e (s .edges) h)
 
-  unit-alone : (e : Edge) → unitStep (decodedMeaning s) u ≡ unitStep (alone (s .clocks) e (locationIn s (u .location))) u
+  unit-alone : (e : Edge) → unitStep (decodedMeaning s) u ≡ unitStep (alone (s .edition) (s .clocks) e (locationIn s (u .location))) u
   unfolding unitStep decodedMeaning alone
   unit-alone e = refl
 
-  move-alone : (e : Edge) → moveStep (decodedMeaning s) u ≡ moveStep (alone (s .clocks) e (locationIn s (u .location))) u
+  move-alone : (e : Edge) → moveStep (decodedMeaning s) u ≡ moveStep (alone (s .edition) (s .clocks) e (locationIn s (u .location))) u
   unfolding moveStep decodedMeaning alone inBounds
   move-alone e = refl
 
@@ -106,29 +115,29 @@ module _ (s : Sheet) (u : Node) where
 
 module _ (y : Layout) (s : Sheet) (x : ℕ) where
   pub edge-alone-number : (e : ℕ) → e ≤ 31 → e < s .edges
-      → stepBy y (decodedMeaning s) x e ≡ stepBy y (alone (s .clocks) (edgeIn s e) (locationIn s (edgeIn s e .target))) x 0
+      → stepBy y (decodedMeaning s) x e ≡ stepBy y (alone (s .edition) (s .clocks) (edgeIn s e) (locationIn s (edgeIn s e .target))) x 0
   unfolding stepBy step decodedMeaning alone
   edge-alone-number e h l =
-      let u = nodeOf y (fewClocks (s .clocks)) x in
+      let u = nodeOf y (fewClocks (s .edition) (s .clocks)) x in
       ap (Option·map (named (number y))) (step-edge (decodedMeaning s) u e h ∙ edge-alone s u e l)
 
   pub delay-alone-number : (e : Edge) (code : ℕ) → 31 < code
-      → stepBy y (decodedMeaning s) x code ≡ stepBy y (alone (s .clocks) e (locationIn s (nodeOf y (fewClocks (s .clocks)) x .location))) x code
+      → stepBy y (decodedMeaning s) x code ≡ stepBy y (alone (s .edition) (s .clocks) e (locationIn s (nodeOf y (fewClocks (s .edition) (s .clocks)) x .location))) x code
   unfolding stepBy step decodedMeaning alone
   delay-alone-number e code h =
-      let u = nodeOf y (fewClocks (s .clocks)) x in
-      let B = alone (s .clocks) e (locationIn s (u .location)) in
+      let u = nodeOf y (fewClocks (s .edition) (s .clocks)) x in
+      let B = alone (s .edition) (s .clocks) e (locationIn s (u .location)) in
       simp (lt-leb code 31 h) (λ i. Option·map (named (number y))
       (cond (eqb code 32) (unit-alone s u e i) (cond (eqb code 33) (move-alone s u e i) none)))
 
   -- question 15: the location is one of the sheet's, and the rest by its record
-  pub number-alone : (e : Edge) → isNumber y (decodedMeaning s) x ≡ ltb (nodeOf y (fewClocks (s .clocks)) x .location) (s .locations)
-      && isNumber y (alone (s .clocks) e (locationIn s (nodeOf y (fewClocks (s .clocks)) x .location))) x
+  pub number-alone : (e : Edge) → isNumber y (decodedMeaning s) x ≡ ltb (nodeOf y (fewClocks (s .edition) (s .clocks)) x .location) (s .locations)
+      && isNumber y (alone (s .edition) (s .clocks) e (locationIn s (nodeOf y (fewClocks (s .edition) (s .clocks)) x .location))) x
   unfolding isNumber isNode decodedMeaning alone inBounds
   number-alone e =
-      let u = nodeOf y (fewClocks (s .clocks)) x in
-      swap (eqb (number y u) x) (ltb (u .location) (s .locations)) (eqb (length (u .region .whole)) (fewClocks (s .clocks))
-      && (eqb (length (u .region .class)) (fewClocks (s .clocks))
+      let u = nodeOf y (fewClocks (s .edition) (s .clocks)) x in
+      swap (eqb (number y u) x) (ltb (u .location) (s .locations)) (eqb (length (u .region .whole)) (fewClocks (s .edition) (s .clocks))
+      && (eqb (length (u .region .class)) (fewClocks (s .edition) (s .clocks))
       && (usesEachRank (u .region .class) && (leb (u .corner) (largest (u .region .class)) && inside (decodedMeaning s) u))))
       (lt-ltb (u .location) 16 (unfold nodeOf in mod-lt (x / 2 ^ y .location) {m = 16} (lit< tt)))
     where

@@ -1,6 +1,7 @@
 pub mod Packing
 pub mod Carried
 pub mod NumberLaws
+pub mod LayoutLaws
 pub mod QuestionLaws
 pub mod CheckedLaws
 pub mod AgreeLaws

@@ -1,7 +1,7 @@
 -- Edge records that pass their questions are the same bytes just where they are read as the same edge.
 use mathlib.Core.Path.{_≡_, refl, sym, ap, subst, _∙_}
 use mathlib.Core.Bool.{Bool, true, false, cond}
-use mathlib.Core.List.{List, _∷_, []}
+use mathlib.Core.List.{List}
 use mathlib.Core.Option.{Option, none, some, Option·getD}
 use Prim.Native.Nat.{ℕ, _+_, _-_, _≤_, _<_}
 use native.Mathlib.Nat.{add-sub-of-le}
@@ -13,16 +13,18 @@ use lib.ListN.{getD}
 use mir.Syntax.{w16}
 use mir.Val.{ofZ}
 use Rattle.automaton.proofs.Tests.{by-bool, clash, &&-left, &&-right}
-use Rattle.sheet.specs.Bytes.{wordAt, signedOf}
+use Rattle.sheet.specs.Bytes.{byteAt, wordAt, signedOf}
 use Rattle.sheet.specs.Maps.{stands, placeOf}
-use Rattle.sheet.specs.Fields.{Edition, firstEdition, ofClock, fieldOf, costInRange, inRange}
-use Rattle.sheet.specs.Records.{fieldPlace, valueAt, fieldAt, recordLength}
+use Rattle.sheet.specs.Fields.{Edition, lowerBit, upperBit, ofClock, fieldOf, costInRange, inRange}
+use Rattle.sheet.specs.Records.{fieldPlace, valueAt, fieldAt, recordLength, editionOf}
 use Rattle.sheet.specs.Questions.{whereThere, fieldGood, edgeCode, sameRecord}
 use Rattle.sheet.specs.Decoded.{clockBytes, edgeOf}
 use Rattle.sheet.specs.declared.fields.Kind.the-variants.{EdgeRecord}
 use Rattle.sheet.specs.declared.fields.Field.{Field}
 use Rattle.sheet.specs.declared.fields.Field.the-variants.{Cost, Reward, Reset, Lower, Upper, Unused}
 use Rattle.sheet.specs.declared.Edge.{Edge}
+use Rattle.sheet.proofs.FieldLaws.{edition-clocks}
+use Rattle.sheet.proofs.DecodeLaws.{filled-same}
 use Rattle.sheet.proofs.AlikeLaws.{Alike, part, join, one-more, all-alike, alike-all}
 use Rattle.nodes.specs.SameEdges.{OfBytes}
 use Rattle.nodes.proofs.CheckedLaws.{edge-good}
@@ -45,9 +47,9 @@ module _ (s : List ℕ) (x y : ℕ) where
         (part s x y (recordLength EdgeRecord s x) 4 (placeOf (wordAt s x) 16) (all-alike s x y same) (omega arith)) b l
         ∙ ap (λ (m : ℕ). fieldFrom s (y + 4) m b) (alike-word s x y (λ i l. same-head i (omega arith)))
 
-    same-clocks : (b d : ℕ) → b + 2 < 16 → clockBytes EdgeRecord s x b d ≡ clockBytes EdgeRecord s y b d
-    same-clocks b d l = λ i. Option·getD (same-field b (omega arith) i) d ∷ Option·getD (same-field (b + 1) (omega arith) i) d
-        ∷ Option·getD (same-field (b + 2) (omega arith) i) d ∷ []
+    same-clocks : (b d : ℕ) → b + 4 ≤ 16 → clockBytes EdgeRecord s x b d ≡ clockBytes EdgeRecord s y b d
+    unfolding clockBytes
+    same-clocks b d l = filled-same _ _ d 4 (editionOf s .clocks) (λ j h. ap (λ (o : Option ℕ). Option·getD o d) (same-field (b + j) (omega (arith, edition-clocks (byteAt s 0)))))
 
     pub same-edge : edgeOf s x ≡ edgeOf s y
     same-edge = λ i. record {
@@ -56,8 +58,8 @@ module _ (s : List ℕ) (x y : ℕ) where
       cost = signedOf (Option·getD (same-field 0 (omega arith) i) 0);
       reward = Option·getD (same-field 1 (omega arith) i) 0;
       reset = Option·getD (same-field 2 (omega arith) i) 0;
-      lower = same-clocks (firstEdition .lower) 0 (omega arith) i;
-      upper = same-clocks (firstEdition .upper) 255 (omega arith) i;
+      lower = same-clocks lowerBit 0 (omega arith) i;
+      upper = same-clocks (upperBit (editionOf s)) 255 (omega (arith, edition-clocks (byteAt s 0))) i;
     }
 
 -- ---- each bit of an edge's map, by its field
@@ -74,15 +76,15 @@ module _ (y : Edition) (P : ℕ → Field → Type 0) where
       subst (λ (i : ℕ). P i (f (b - from))) (add-sub-of-le l) (h (b - from) (omega arith))
 
   by-field : P 0 Cost → P 1 Reward → P 2 Reset
-      → ((j : ℕ) → j < y .clocks → P (y .lower + j) (Lower j)) → ((j : ℕ) → j < y .clocks → P (y .upper + j) (Upper j))
+      → ((j : ℕ) → j < y .clocks → P (lowerBit + j) (Lower j)) → ((j : ℕ) → j < y .clocks → P (upperBit y + j) (Upper j))
       → ((b : ℕ) → P b Unused) → (b : ℕ) → P b (fieldOf y EdgeRecord b)
   unfolding fieldOf
   by-field cost reward reset lower upper unused b =
       pick (P b) (eqb b 0) Cost _ (λ t. subst (λ (i : ℕ). P i Cost) (sym (eqb-true b 0 t)) cost) (λ n.
       pick (P b) (eqb b 1) Reward _ (λ t. subst (λ (i : ℕ). P i Reward) (sym (eqb-true b 1 t)) reward) (λ n.
       pick (P b) (eqb b 2) Reset _ (λ t. subst (λ (i : ℕ). P i Reset) (sym (eqb-true b 2 t)) reset) (λ n.
-      pick (P b) (ofClock y (y .lower) b) (Lower (b - y .lower)) _ (of-clock Lower (y .lower) lower b) (λ n.
-      pick (P b) (ofClock y (y .upper) b) (Upper (b - y .upper)) Unused (of-clock Upper (y .upper) upper b) (λ n. unused b)))))
+      pick (P b) (ofClock y lowerBit b) (Lower (b - lowerBit)) _ (of-clock Lower lowerBit lower b) (λ n.
+      pick (P b) (ofClock y (upperBit y) b) (Upper (b - upperBit y)) Unused (of-clock Upper (upperBit y) upper b) (λ n. unused b)))))
 
 -- ---- records that pass their questions and are read as the same edge are the same bytes
 
@@ -126,18 +128,18 @@ module _ (s : List ℕ) (ok : OfBytes s) where
     by-read : (b d : ℕ) (f : Field) → inRange k f d ≡ false → Option·getD (fieldAt EdgeRecord s x b) d ≡ Option·getD (fieldAt EdgeRecord s y b) d → Told b f
     by-read b d f n = told (inRange k f) d n (fieldAt EdgeRecord s x b) (fieldAt EdgeRecord s y b)
 
-    clock-told : (b d : ℕ) → clockBytes EdgeRecord s x b d ≡ clockBytes EdgeRecord s y b d → (j : ℕ) → j < 3
+    clock-told : (b d : ℕ) → clockBytes EdgeRecord s x b d ≡ clockBytes EdgeRecord s y b d → (j : ℕ) → j < editionOf s .clocks
         → Option·getD (fieldAt EdgeRecord s x (b + j)) d ≡ Option·getD (fieldAt EdgeRecord s y (b + j)) d
     clock-told b d h j l = clock-byte EdgeRecord s x b d j l ∙ ap (λ (c : List ℕ). getD c j 0) h ∙ sym (clock-byte EdgeRecord s y b d j l)
 
-    field-told : (b : ℕ) → Told b (fieldOf firstEdition EdgeRecord b)
+    field-told : (b : ℕ) → Told b (fieldOf (editionOf s) EdgeRecord b)
     unfolding inRange costInRange signedOf
-    field-told = by-field firstEdition Told
+    field-told = by-field (editionOf s) Told
         (by-read 0 0 Cost refl (sym (cost-told x) ∙ ap (λ (z : Edge). ofZ w16 (z .cost)) e ∙ cost-told y))
         (by-read 1 0 Reward refl (ap (λ (z : Edge). z .reward) e))
         (by-read 2 0 Reset refl (ap (λ (z : Edge). z .reset) e))
-        (λ j h. by-read (firstEdition .lower + j) 0 (Lower j) refl (clock-told (firstEdition .lower) 0 (ap (λ (z : Edge). z .lower) e) j h))
-        (λ j h. by-read (firstEdition .upper + j) 255 (Upper j) refl (clock-told (firstEdition .upper) 255 (ap (λ (z : Edge). z .upper) e) j h))
+        (λ j h. by-read (lowerBit + j) 0 (Lower j) refl (clock-told lowerBit 0 (ap (λ (z : Edge). z .lower) e) j h))
+        (λ j h. by-read (upperBit (editionOf s) + j) 255 (Upper j) refl (clock-told (upperBit (editionOf s)) 255 (ap (λ (z : Edge). z .upper) e) j h))
         (λ b. none-passes (fieldAt EdgeRecord s x b) (fieldAt EdgeRecord s y b))
 
   pub same-bytes : (k l x y : ℕ) → edgeCode k l s x ≡ 0 → edgeCode k l s y ≡ 0 → edgeOf s x ≡ edgeOf s y → sameRecord s x y ≡ true

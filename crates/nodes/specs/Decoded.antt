@@ -7,15 +7,20 @@ use lib.ListN.{getD}
 use Rattle.automaton.specs.Tests.{only}
 use Rattle.automaton.specs.Automaton.{Automaton}
 use Rattle.sheet.specs.Maps.{stands}
-use Rattle.sheet.specs.Fields.{firstEdition}
+use Rattle.sheet.specs.Fields.{editionAt}
 use Rattle.sheet.specs.Decoded.{blankLocation, blankEdge}
 use Rattle.sheet.specs.declared.Location.{Location}
 use Rattle.sheet.specs.declared.Edge.{Edge}
 use Rattle.sheet.specs.declared.Sheet.{Sheet}
+use Rattle.nodes.specs.Numbers.{Layout, layoutAt}
 
--- edition 1 has no more clocks than these
-abbrev pub fewClocks : ℕ → ℕ
-fewClocks k = min k (firstEdition .clocks)
+-- so many clocks, or the most that the edition has
+abbrev pub fewClocks : ℕ → ℕ → ℕ
+fewClocks edition k = min k (editionAt edition .clocks)
+
+-- where the node numbers of a decoded sheet have their parts
+abbrev pub layoutIn : Sheet → Layout
+layoutIn s = layoutAt (s .edition)
 
 -- an absent upper guard is 255
 abbrev pub guardOf : ℕ → Option ℕ
@@ -39,7 +44,7 @@ edgeIn s e = getD (s .edge) e blankEdge
 unfoldable pub decodedMeaning : Sheet → Automaton
 decodedMeaning s = record {
   locations = s .locations;
-  clocks = fewClocks (s .clocks);
+  clocks = fewClocks (s .edition) (s .clocks);
   edges = s .edges;
   bound = λ l. boundIn (locationIn s l);
   costRate = λ l. locationIn s l .cost;
@@ -56,22 +61,22 @@ decodedMeaning s = record {
 -- The automaton of one edge's record and one location's: one edge, by the code 0, and the same record at each location that four bits can tell.
 -- A step needs no more of a sheet s. For an example, let its edge 7 lead from location 2 to location 5. That step, code 7 at a node of location 2,
 -- reads the record of edge 7 and, for the bounds where it lands, that of location 5: it is the step with code 0 of
--- `alone (s .clocks) (edgeIn s 7) (locationIn s 5)`. A delay in location 2, code 32 or 33, reads that location's record only: it is the step with
--- the same code of `alone (s .clocks) e (locationIn s 2)`, whatever e is. That it steps as the sheet does is proved for every sheet, number and
+-- `alone (s .edition) (s .clocks) (edgeIn s 7) (locationIn s 5)`. A delay in location 2, code 32 or 33, reads that location's record only: it is the step with
+-- the same code of `alone (s .edition) (s .clocks) e (locationIn s 2)`, whatever e is. That it steps as the sheet does is proved for every sheet, number and
 -- code in DecodedLaws.antt: edge-alone-number, delay-alone-number, and number-alone for question 15.
-unfoldable pub alone : ℕ → Edge → Location → Automaton
-alone k e l = record {
+unfoldable pub alone : ℕ → ℕ → Edge → Location → Automaton
+alone edition k edge l = record {
   locations = 16;
-  clocks = fewClocks k;
+  clocks = fewClocks edition k;
   edges = 1;
   bound = λ i. boundIn l;
   costRate = λ i. l .cost;
   rewardRate = λ i. l .reward;
-  source = λ i. e .source;
-  target = λ i. e .target;
-  lower = λ i. lowerIn e;
-  upper = λ i. upperIn e;
-  reset = λ i. stands (e .reset);
-  cost = λ i. e .cost;
-  reward = λ i. e .reward;
+  source = λ i. edge .source;
+  target = λ i. edge .target;
+  lower = λ i. lowerIn edge;
+  upper = λ i. upperIn edge;
+  reset = λ i. stands (edge .reset);
+  cost = λ i. edge .cost;
+  reward = λ i. edge .reward;
 }

@@ -5,10 +5,10 @@ use Prim.Native.Nat.{ℕ, _+_}
 use Rattle.automaton.specs.Automaton.{Automaton}
 use Rattle.sheet.specs.Bytes.{byteAt, signedOf}
 use Rattle.sheet.specs.Maps.{stands}
-use Rattle.sheet.specs.Fields.{firstEdition}
-use Rattle.sheet.specs.Records.{fieldAt, boundAt, locationAt, edgeAt, locationsIn, clocksIn, edgesIn}
+use Rattle.sheet.specs.Fields.{lowerBit, upperBit}
+use Rattle.sheet.specs.Records.{fieldAt, boundAt, editionOf, locationAt, edgeAt, locationsIn, clocksIn, edgesIn}
 use Rattle.sheet.specs.declared.fields.Kind.the-variants.{LocationRecord, EdgeRecord}
-use Rattle.nodes.specs.Numbers.{Layout, firstLayout}
+use Rattle.nodes.specs.Numbers.{Layout, layoutAt}
 
 -- "An absent price is 0, an absent reset mask resets nothing, an absent guard allows all": an absent lower guard is the byte 0, from 0 on,
 -- and an absent upper guard is none
@@ -22,13 +22,13 @@ meaning s = record {
   rewardRate = λ l. Option·getD (fieldAt LocationRecord s (locationAt s l) 1) 0;
   source = λ e. byteAt s (edgeAt s e + 2);
   target = λ e. byteAt s (edgeAt s e + 3);
-  lower = λ e j. Option·getD (fieldAt EdgeRecord s (edgeAt s e) (firstEdition .lower + j)) 0;
-  upper = λ e j. fieldAt EdgeRecord s (edgeAt s e) (firstEdition .upper + j);
+  lower = λ e j. Option·getD (fieldAt EdgeRecord s (edgeAt s e) (lowerBit + j)) 0;
+  upper = λ e j. fieldAt EdgeRecord s (edgeAt s e) (upperBit (editionOf s) + j);
   reset = λ e j. stands (Option·getD (fieldAt EdgeRecord s (edgeAt s e) 2) 0) j;
   cost = λ e. signedOf (Option·getD (fieldAt EdgeRecord s (edgeAt s e) 0) 0);
   reward = λ e. Option·getD (fieldAt EdgeRecord s (edgeAt s e) 1) 0;
 }
 
--- where its node numbers have their parts: there is one edition
+-- where its node numbers have their parts
 abbrev pub layoutOf : List ℕ → Layout
-layoutOf s = firstLayout
+layoutOf s = layoutAt (byteAt s 0)

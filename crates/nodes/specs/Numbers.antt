@@ -1,5 +1,5 @@
 -- Node numbers, for any number of clocks: the number of a node, the node of a number, and the steps on numbers.
-use mathlib.Core.Bool.{Bool, _&&_}
+use mathlib.Core.Bool.{Bool, cond, _&&_}
 use mathlib.Core.List.{List, [], _∷_}
 use mathlib.Core.Option.{Option, Option·map}
 use Prim.Native.Nat.{ℕ, zero, suc, _+_, _*_, _/_, _%_, _^_}
@@ -17,6 +17,14 @@ pub record Layout : Type 0 where
 -- "corner in bits 0 and 1; clock j has its class in bits 2 + 6j and 3 + 6j and h in the four bits above; location in bits 20 to 23"
 abbrev pub firstLayout : Layout
 firstLayout = record { bits = 2; location = 20 }
+
+-- "edition 2 has the corner in bits 0 to 2, clock j with its class in the three bits from 3 + 7j and h in the four above, location in bits 31 to 34"
+abbrev pub secondLayout : Layout
+secondLayout = record { bits = 3; location = 31 }
+
+-- the layout of an edition, as its byte tells it
+abbrev pub layoutAt : ℕ → Layout
+layoutAt edition = cond (eqb edition 1) firstLayout secondLayout
 
 -- where clock j has its class and its whole part
 abbrev pub classAt : Layout → ℕ → ℕ

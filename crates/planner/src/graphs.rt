@@ -14,7 +14,7 @@ fn accept(
     code: &[u16],
     cost: &[i16],
     reward: &[u16],
-    order: &[u32],
+    order: &[u16],
     tree: &[usize],
     n: usize,
     least: &[i64],
@@ -22,7 +22,7 @@ fn accept(
     k: usize,
     p: i64,
     q: u64,
-    nodes: &mut [u32],
+    nodes: &mut [u64],
     potentials: &mut [i64],
     steps: &mut [u16],
 ) -> Answer
@@ -39,7 +39,7 @@ fn accept(
         return crate::output::refused(13);
     };
     let all = s + k;
-    buffers::clear_u32(nodes, n);
+    buffers::clear_u64(nodes, n);
     crate::output::permute(least, order, n, potentials);
     buffers::clear_i64(potentials, n);
     crate::output::encode(code, &arcs, all, steps);
@@ -54,10 +54,10 @@ pub(crate) fn plan_graph(
     code: &[u16],
     cost: &[i16],
     reward: &[u16],
-    order: &[u32],
+    order: &[u16],
     tree: &[usize],
     n: usize,
-    nodes: &mut [u32],
+    nodes: &mut [u64],
     potentials: &mut [i64],
     steps: &mut [u16],
 ) -> Answer

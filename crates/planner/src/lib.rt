@@ -23,7 +23,7 @@ pub struct Answer {
 }
 
 // The questions of a plan in their order. Where one of 12 to 14 is answered no, the buffers are still to be cleared.
-fn ask(sheet: &[u8], nodes: &mut [u32], potentials: &mut [i64], steps: &mut [u16]) -> Answer
+fn ask(sheet: &[u8], nodes: &mut [u64], potentials: &mut [i64], steps: &mut [u16]) -> Answer
     ensures { λ r. ⌜ PlannedButForClearing (now (sheet .entry)) (lentBuffers (now (nodes .entry)) (now (potentials .entry)) (now (steps .entry)))
         (lentBuffers (now (nodes .exit)) (now (potentials .exit)) (now (steps .exit))) (answerOf r) ⌝ }
 {
@@ -46,7 +46,7 @@ fn ask(sheet: &[u8], nodes: &mut [u32], potentials: &mut [i64], steps: &mut [u16
 
 // The answer to the questions of a plan: 1, those of the check, and 12 to 14. The nodes' numbers are written to nodes, rising, their
 // potentials to potentials, and the codes of stem and cycle to steps; refusals 12 to 14 clear all three.
-pub fn plan(sheet: &[u8], nodes: &mut [u32], potentials: &mut [i64], steps: &mut [u16]) -> Answer
+pub fn plan(sheet: &[u8], nodes: &mut [u64], potentials: &mut [i64], steps: &mut [u16]) -> Answer
     ensures { λ r. ⌜ Planned (now (sheet .entry)) (lentBuffers (now (nodes .entry)) (now (potentials .entry)) (now (steps .entry)))
         (lentBuffers (now (nodes .exit)) (now (potentials .exit)) (now (steps .exit))) (answerOf r) ⌝ }
 {

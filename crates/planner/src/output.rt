@@ -47,7 +47,7 @@ pub(crate) fn accepted(p: i64, q: u64, n: usize, s: usize, m: usize, cycle: Sums
 // A refusal after which all entries are 0.
 pub(crate) fn refuse(
     refusal: u8,
-    nodes: &mut [u32],
+    nodes: &mut [u64],
     potentials: &mut [i64],
     steps: &mut [u16],
 ) -> Answer
@@ -56,20 +56,20 @@ pub(crate) fn refuse(
         ⌜ now (potentials .exit) ≡ replicate (length (now (potentials .entry))) (pos 0) ⌝ ∗
         ⌜ now (steps .exit) ≡ replicate (length (now (steps .entry))) 0 ⌝ }
 {
-    buffers::clear_u32(nodes, 0);
+    buffers::clear_u64(nodes, 0);
     buffers::clear_i64(potentials, 0);
     buffers::clear_u16(steps, 0);
     refused(refusal)
 }
 
-fn place(x: u32) -> usize
+fn place(x: u16) -> usize
     ensures { λ r. ⌜ r ≡ x ⌝ }
 {
     x as usize
 }
 
 // The first n potentials, in the order of output.
-pub(crate) fn permute(least: &[i64], order: &[u32], n: usize, potentials: &mut [i64])
+pub(crate) fn permute(least: &[i64], order: &[u16], n: usize, potentials: &mut [i64])
     requires { ⌜ Pickable (now least) (now order) n (now potentials) ⌝ }
     ensures { λ _. ⌜ Picked (pos 0) (now (least .entry)) (now (order .entry)) n (now (potentials .entry)) (now (potentials .exit)) ⌝ }
 {

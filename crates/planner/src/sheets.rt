@@ -8,7 +8,7 @@ use sheet::Sheet;
 
 pub(crate) fn plan_read(
     read: Sheet,
-    nodes: &mut [u32],
+    nodes: &mut [u64],
     potentials: &mut [i64],
     steps: &mut [u16],
 ) -> Answer
@@ -16,8 +16,8 @@ pub(crate) fn plan_read(
     ensures { λ r. ⌜ ((o : ReadFrom read) → PlannedButForClearing (o .bytes) (lentBuffers (now (nodes .entry)) (now (potentials .entry)) (now (steps .entry)))
         (lentBuffers (now (nodes .exit)) (now (potentials .exit)) (now (steps .exit))) (answerOf r)) ⌝ }
 {
-    let mut found = [0u32; 2048];
-    let mut order = [0u32; 2048];
+    let mut found = [0u64; 2048];
+    let mut order = [0u16; 2048];
     let mut tree = [0usize; 2048];
     let mut from = [0u16; 69632];
     let mut to = [0u16; 69632];

@@ -9,16 +9,16 @@ use Rattle.sheet.proofs.MapLaws.{one-shl}
 use Rattle.nodes.specs.Numbers.{put}
 
 -- so many low bits
-pub low-bits : (x width : ℕ) → width < 32 → bitAnd x (1 * 2 ^ width % 2 ^ 32 - 1) ≡ x % 2 ^ width
-low-bits x width h = ap (λ (m : ℕ). bitAnd x (m - 1)) (one-shl 32 width h) ∙ and-mask x width
+pub low-bits : (x width : ℕ) → width < 64 → bitAnd x (1 * 2 ^ width % 2 ^ 64 - 1) ≡ x % 2 ^ width
+low-bits x width h = ap (λ (m : ℕ). bitAnd x (m - 1)) (one-shl 64 width h) ∙ and-mask x width
 
-pub low-below : (x width : ℕ) → width ≤ 4 → x % 2 ^ width < 16
-low-below x width h = omega (arith, mod-lt x (pow-pos width), pow-mono {i = width} {j = 4} h)
+pub low-below : (x width most : ℕ) → width ≤ most → x % 2 ^ width < 2 ^ most
+low-below x width most h = omega (arith, mod-lt x (pow-pos width), pow-mono {i = width} {j = most} h)
 
 -- a part above the bits that are there is a sum
-pub part-above : (x v width at : ℕ) → x < 2 ^ at → width ≤ 4 → at ≤ 28
-    → bitOr x (bitAnd v (1 * 2 ^ width % 2 ^ 32 - 1) * 2 ^ at % 2 ^ 32) ≡ x + put v width at
+pub part-above : (x v width at : ℕ) → x < 2 ^ at → width ≤ 4 → at ≤ 60
+    → bitOr x (bitAnd v (1 * 2 ^ width % 2 ^ 64 - 1) * 2 ^ at % 2 ^ 64) ≡ x + put v width at
 part-above x v width at hx hw ha =
-    ap (λ (m : ℕ). bitOr x (m * 2 ^ at % 2 ^ 32)) (low-bits v width (omega arith))
-    ∙ ap (bitOr x) (shl-exact width at 32 (mod-lt v (pow-pos width)) (omega arith))
+    ap (λ (m : ℕ). bitOr x (m * 2 ^ at % 2 ^ 64)) (low-bits v width (omega arith))
+    ∙ ap (bitOr x) (shl-exact width at 64 (mod-lt v (pow-pos width)) (omega arith))
     ∙ or-shifted-r (v % 2 ^ width) at x hx ∙ add-comm (v % 2 ^ width * 2 ^ at) x

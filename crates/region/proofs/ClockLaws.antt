@@ -11,13 +11,14 @@ use lib.ListN.{length, getD, take}
 use Rattle.automaton.specs.Tests.{occurs, every}
 use Rattle.automaton.specs.Bounds.{interval}
 use Rattle.automaton.specs.Ranks.{mask}
+use Rattle.automaton.proofs.Lists.{length-zip}
 use Rattle.automaton.proofs.Tests.{&&-left, &&-right, &&-intro}
 
 pub every-none : (p : ℕ → ℕ → Bool) (xs : List ℕ) → every p (take 0 xs) ≡ true
 unfolding every
 every-none p xs = refl
 
-no-more : (b : Bool) → b && false ≡ false
+pub no-more : (b : Bool) → b && false ≡ false
 no-more true = refl
 no-more false = refl
 
@@ -88,22 +89,15 @@ zip-at f (x ∷ xs) [] j h l = absurd (omega arith)
 zip-at f (x ∷ xs) (y ∷ ys) zero h l = refl
 zip-at f (x ∷ xs) (y ∷ ys) (suc j) h l = zip-at f xs ys j (omega arith) (omega arith)
 
-zip-long : (f : ℕ → ℕ → ℕ) (xs ys : List ℕ) (n : ℕ) → length xs ≡ n → length ys ≡ n → length (zipWith f xs ys) ≡ n
-unfolding zipWith
-zip-long f [] ys n h l = h
-zip-long f (x ∷ xs) [] n h l = absurd (omega arith)
-zip-long f (x ∷ xs) (y ∷ ys) zero h l = absurd (omega arith)
-zip-long f (x ∷ xs) (y ∷ ys) (suc n) h l = ap suc (zip-long f xs ys n (omega arith) (omega arith))
-
 -- ---- a test of each clock's interval, b where j is asked with x
 
-module _ (p : ℕ → ℕ → Bool) (hs ks : List ℕ) (h : length hs ≡ 3) (k : length ks ≡ 3) (j : ℕ) (l : j < 3) {x : ℕ} {b : Bool}
+module _ (p : ℕ → ℕ → Bool) (width : ℕ) (hs ks : List ℕ) (h : length hs ≡ width) (k : length ks ≡ width) (j : ℕ) (l : j < width) {x : ℕ} {b : Bool}
     (x-is : x ≡ interval (getD hs j 0) (getD ks j 0)) (b-is : b ≡ p j x) where
   asked : p j (getD (zipWith interval hs ks) j 0) ≡ b
   asked = ap (p j) (zip-at interval hs ks j (omega arith) (omega arith) ∙ sym x-is) ∙ sym b-is
 
   there : j < length (zipWith interval hs ks)
-  there = omega (arith, zip-long interval hs ks 3 h k)
+  there = omega (arith, length-zip interval hs ks (h ∙ sym k))
 
   pub clock-more : every p (take j (zipWith interval hs ks)) ≡ true → b ≡ true → every p (take (j + 1) (zipWith interval hs ks)) ≡ true
   clock-more e t = every-more p (zipWith interval hs ks) j there e (asked ∙ t)

@@ -17,150 +17,149 @@ use Rattle.automaton.specs.Nodes.{inside, largestClass}
 use Rattle.automaton.specs.Steps.{someWhole, unitTo, unitStep, riseTo, carryTo, moveStep, step}
 use Rattle.sheet.specs.Decoded.{blankEdge}
 use Rattle.sheet.specs.declared.Location.{Location}
-use Rattle.nodes.specs.Numbers.{firstLayout, number, nodeOf, stepBy}
+use Rattle.nodes.specs.Numbers.{Layout, layoutAt, number, nodeOf, stepBy}
 use Rattle.nodes.specs.Decoded.{fewClocks, alone}
 use Rattle.nodes.proofs.Carried.{named}
 use Rattle.region.specs.Answers.{refusedStep, answered}
-use Rattle.region.specs.Arrays.{inArrays, fromArrays, boundsIn, afterRise, afterCarry}
+use Rattle.region.specs.Arrays.{inArrays, nodeIn, numberIn, boundsIn, afterRise, afterCarry}
 use Rattle.region.specs.declared.Node.{Node}
 use Rattle.region.specs.declared.Stepped.{Stepped}
-use Rattle.region.proofs.ArrayLaws.{largest-padded}
-use Rattle.region.proofs.NodeLaws.{few-le, Sized, sized, same-number, same-class, rise-arrays, rise-sized, carry-arrays, carry-sized}
+use Rattle.region.proofs.ClockLaws.{no-more}
+use Rattle.region.proofs.PadLaws.{largest-pad}
+use Rattle.nodes.proofs.LayoutLaws.{few-le}
+use Rattle.region.proofs.NodeLaws.{Sized, sized, own-number, same-class, rise-arrays, rise-sized, carry-arrays, carry-sized}
 use Rattle.region.proofs.EdgeLaws.{same-inside}
 
-no-more : (b : Bool) → b && false ≡ false
-no-more true = refl
-no-more false = refl
+module _ (e k : ℕ) (l : Location) (x : ℕ) where
+  abbrev y : Layout
+  y = layoutAt e
 
-module _ (k : ℕ) (l : Location) (x : ℕ) where
   abbrev A : Automaton
-  A = alone k blankEdge l
+  A = alone e k blankEdge l
 
   abbrev u : automaton.Node
-  u = nodeOf firstLayout (fewClocks k) x
+  u = nodeOf y (fewClocks e k) x
 
-  same-whole : occurs 0 (take (fewClocks k) (inArrays u .region .class)) ≡ someWhole u
-  same-whole = ap (occurs 0) (same-class (fewClocks k) (few-le k) u (sized (fewClocks k) x))
+  clocks : Sized (fewClocks e k) u
+  clocks = sized y (fewClocks e k) x
+
+  same-whole : occurs 0 (take (fewClocks e k) (inArrays u .region .class)) ≡ someWhole u
+  same-whole = ap (occurs 0) (same-class clocks (few-le e k))
 
   same-largest : largest (inArrays u .region .class) ≡ largestClass u
-  same-largest = largest-padded (u .region .class) (omega (arith, sized (fewClocks k) x .classes, few-le k))
+  same-largest = largest-pad 4 (u .region .class) (omega (arith, clocks .classes, few-le e k))
 
   -- ---- one unit
 
   unit-by : (b : Bool) → not (someWhole u) && eqb (u .corner) (largestClass u) ≡ b
-      → answered 32 (only b (record { to = number firstLayout (unitTo u); cost = l .cost; reward = l .reward })) ≡ answered 32 (stepBy firstLayout A x 32)
+      → answered 32 (only b (record { to = number y (unitTo u); cost = l .cost; reward = l .reward })) ≡ answered 32 (stepBy y A x 32)
   unfolding stepBy step unitStep alone
-  unit-by true h = sym (ap (λ (b : Bool). answered 32 (Option·map (named (number firstLayout)) (only b (record { to = unitTo u; cost = l .cost; reward = l .reward })))) h)
-  unit-by false h = sym (ap (λ (b : Bool). answered 32 (Option·map (named (number firstLayout)) (only b (record { to = unitTo u; cost = l .cost; reward = l .reward })))) h)
+  unit-by true h = sym (ap (λ (b : Bool). answered 32 (Option·map (named (number y)) (only b (record { to = unitTo u; cost = l .cost; reward = l .reward })))) h)
+  unit-by false h = sym (ap (λ (b : Bool). answered 32 (Option·map (named (number y)) (only b (record { to = unitTo u; cost = l .cost; reward = l .reward })))) h)
 
-  unit-whole : occurs 0 (take (fewClocks k) (inArrays u .region .class)) ≡ true → refusedStep 16 ≡ answered 32 (stepBy firstLayout A x 32)
+  unit-whole : occurs 0 (take (fewClocks e k) (inArrays u .region .class)) ≡ true → refusedStep 16 ≡ answered 32 (stepBy y A x 32)
   unit-whole h = unit-by false (ap (λ (b : Bool). not b && eqb (u .corner) (largestClass u)) (sym same-whole ∙ h))
 
-  unit-early : (u .corner ≡ largest (inArrays u .region .class) → ⊥) → refusedStep 16 ≡ answered 32 (stepBy firstLayout A x 32)
+  unit-early : (u .corner ≡ largest (inArrays u .region .class) → ⊥) → refusedStep 16 ≡ answered 32 (stepBy y A x 32)
   unit-early n = unit-by false (ap (λ (b : Bool). not (someWhole u) && b) (ne-eqb (u .corner) (largestClass u) (λ q. n (q ∙ sym same-largest)))
       ∙ no-more (not (someWhole u)))
 
-  unit-taken : occurs 0 (take (fewClocks k) (inArrays u .region .class)) ≡ false → u .corner ≡ largest (inArrays u .region .class)
-      → _≡_ {A = Stepped} (record { refusal = 0; number = number firstLayout (fromArrays (inArrays (unitTo u))); cost = l .cost; reward = l .reward; units = 1 })
-      (answered 32 (stepBy firstLayout A x 32))
+  unit-taken : occurs 0 (take (fewClocks e k) (inArrays u .region .class)) ≡ false → u .corner ≡ largest (inArrays u .region .class)
+      → _≡_ {A = Stepped} (record { refusal = 0; number = numberIn e (inArrays (unitTo u)); cost = l .cost; reward = l .reward; units = 1 })
+      (answered 32 (stepBy y A x 32))
   unit-taken h q = ap (λ (n : ℕ). record { refusal = 0; number = n; cost = l .cost; reward = l .reward; units = 1 })
-      (same-number (fewClocks k) (few-le k) (unitTo u) (record { wholes = sized (fewClocks k) x .wholes; classes = sized (fewClocks k) x .classes }))
+      (own-number e k (record { wholes = clocks .wholes; classes = clocks .classes }))
       ∙ unit-by true (ap₂ (λ (b c : Bool). not b && c) (sym same-whole ∙ h) (eq-eqb (u .corner) (largestClass u) (q ∙ same-largest)))
 
   -- ---- a region move
 
   move-by : (b : Bool) → someWhole u ≡ b
-      → answered 33 (Option·map (named (number firstLayout)) (cond b (only (inside A (riseTo u)) (free (riseTo u)))
-      (only (ltb (u .corner) (largestClass u) && inside A (carryTo u)) (free (carryTo u))))) ≡ answered 33 (stepBy firstLayout A x 33)
+      → answered 33 (Option·map (named (number y)) (cond b (only (inside A (riseTo u)) (free (riseTo u)))
+      (only (ltb (u .corner) (largestClass u) && inside A (carryTo u)) (free (carryTo u))))) ≡ answered 33 (stepBy y A x 33)
   unfolding stepBy step moveStep alone
-  move-by b h = sym (ap (λ (b : Bool). answered 33 (Option·map (named (number firstLayout)) (cond b (only (inside A (riseTo u)) (free (riseTo u)))
+  move-by b h = sym (ap (λ (b : Bool). answered 33 (Option·map (named (number y)) (cond b (only (inside A (riseTo u)) (free (riseTo u)))
       (only (ltb (u .corner) (largestClass u) && inside A (carryTo u)) (free (carryTo u)))))) h)
 
-  -- a free step to v, told by its arrays
-  landed : (v : automaton.Node) (n : Node) → Sized (fewClocks k) v → n ≡ inArrays v
-      → answered 33 (only (boundsIn (l .upper) (fewClocks k) (n .region)) (free (number firstLayout (fromArrays n))))
-      ≡ answered 33 (Option·map (named (number firstLayout)) (only (inside A v) (free v)))
-  landed v n h q = ap (λ (n : Node). answered 33 (only (boundsIn (l .upper) (fewClocks k) (n .region)) (free (number firstLayout (fromArrays n))))) q
-      ∙ ap₂ (λ (b : Bool) (m : ℕ). answered 33 (only b (free m))) (same-inside k blankEdge l v h) (same-number (fewClocks k) (few-le k) v h)
+  -- a free step to a node in arrays that has so many clocks
+  abbrev lands : ℕ → Node → Stepped
+  lands m n = answered 33 (only (boundsIn (l .upper) m (n .region)) (free (numberIn e n)))
+
+  -- the same, to the node v of these arrays
+  landed : (v : automaton.Node) (n : Node) → Sized (fewClocks e k) v → n ≡ inArrays v
+      → lands (fewClocks e k) n ≡ answered 33 (Option·map (named (number y)) (only (inside A v) (free v)))
+  landed v n h q = ap (lands (fewClocks e k)) q
+      ∙ ap₂ (λ (b : Bool) (m : ℕ). answered 33 (only b (free m))) (same-inside e k blankEdge l h) (own-number e k h)
       ∙ go (inside A v)
     where
-      go : (b : Bool) → answered 33 (only b (free (number firstLayout v))) ≡ answered 33 (Option·map (named (number firstLayout)) (only b (free v)))
+      go : (b : Bool) → answered 33 (only b (free (number y v))) ≡ answered 33 (Option·map (named (number y)) (only b (free v)))
       go true = refl
       go false = refl
 
-  move-rises : occurs 0 (take (fewClocks k) (inArrays u .region .class)) ≡ true
-      → answered 33 (only (boundsIn (l .upper) (fewClocks k) (afterRise (fewClocks k) (inArrays u) .region)) (free (number firstLayout (fromArrays (afterRise (fewClocks k) (inArrays u))))))
-      ≡ answered 33 (stepBy firstLayout A x 33)
-  move-rises h = let s = sized (fewClocks k) x in
-      landed (riseTo u) (afterRise (fewClocks k) (inArrays u)) (rise-sized (fewClocks k) (few-le k) u s) (rise-arrays (fewClocks k) (few-le k) u s)
+  move-rises : occurs 0 (take (fewClocks e k) (inArrays u .region .class)) ≡ true
+      → lands (fewClocks e k) (afterRise (fewClocks e k) (inArrays u)) ≡ answered 33 (stepBy y A x 33)
+  move-rises h =
+      landed (riseTo u) (afterRise (fewClocks e k) (inArrays u)) (rise-sized clocks) (rise-arrays clocks (few-le e k))
       ∙ move-by true (sym same-whole ∙ h)
 
-  move-carries : (g : ℕ) → g ≡ largest (inArrays u .region .class) → occurs 0 (take (fewClocks k) (inArrays u .region .class)) ≡ false → u .corner < g
-      → answered 33 (only (boundsIn (l .upper) (fewClocks k) (afterCarry g (inArrays u) .region)) (free (number firstLayout (fromArrays (afterCarry g (inArrays u))))))
-      ≡ answered 33 (stepBy firstLayout A x 33)
-  move-carries g q h c = let s = sized (fewClocks k) x in
-      ap (λ (g : ℕ). answered 33 (only (boundsIn (l .upper) (fewClocks k) (afterCarry g (inArrays u) .region)) (free (number firstLayout (fromArrays (afterCarry g (inArrays u)))))))
-      (q ∙ same-largest)
-      ∙ landed (carryTo u) (afterCarry (largestClass u) (inArrays u)) (carry-sized (fewClocks k) (few-le k) u s (largestClass u))
-      (carry-arrays (fewClocks k) (few-le k) u s (largestClass u) (omega (arith, q, same-largest)))
-      ∙ ap (λ (b : Bool). answered 33 (Option·map (named (number firstLayout)) (only (b && inside A (carryTo u)) (free (carryTo u)))))
+  move-carries : (g : ℕ) → g ≡ largest (inArrays u .region .class) → occurs 0 (take (fewClocks e k) (inArrays u .region .class)) ≡ false → u .corner < g
+      → lands (fewClocks e k) (afterCarry g (inArrays u)) ≡ answered 33 (stepBy y A x 33)
+  move-carries g q h c =
+      ap (λ (g : ℕ). lands (fewClocks e k) (afterCarry g (inArrays u))) (q ∙ same-largest)
+      ∙ landed (carryTo u) (afterCarry (largestClass u) (inArrays u)) (carry-sized clocks (largestClass u))
+      (carry-arrays clocks (largestClass u) (omega (arith, q, same-largest)))
+      ∙ ap (λ (b : Bool). answered 33 (Option·map (named (number y)) (only (b && inside A (carryTo u)) (free (carryTo u)))))
       (sym (lt-ltb (u .corner) (largestClass u) (omega (arith, q, same-largest))))
       ∙ move-by false (sym same-whole ∙ h)
 
-  move-none : occurs 0 (take (fewClocks k) (inArrays u .region .class)) ≡ false → largest (inArrays u .region .class) ≤ u .corner
-      → refusedStep 16 ≡ answered 33 (stepBy firstLayout A x 33)
-  move-none h c = ap (λ (b : Bool). answered 33 (Option·map (named (number firstLayout)) (only (b && inside A (carryTo u)) (free (carryTo u)))))
+  move-none : occurs 0 (take (fewClocks e k) (inArrays u .region .class)) ≡ false → largest (inArrays u .region .class) ≤ u .corner
+      → refusedStep 16 ≡ answered 33 (stepBy y A x 33)
+  move-none h c = ap (λ (b : Bool). answered 33 (Option·map (named (number y)) (only (b && inside A (carryTo u)) (free (carryTo u)))))
       (sym (le-ltb (u .corner) (largestClass u) (omega (arith, same-largest))))
       ∙ move-by false (sym same-whole ∙ h)
 
--- the same, of the clocks and the node that the code has
-module _ (k : ℕ) (l : Location) (x kk : ℕ) (n : Node) (few : kk ≡ fewClocks k) (is : n ≡ inArrays (nodeOf firstLayout kk x)) where
-  node : n ≡ inArrays (nodeOf firstLayout (fewClocks k) x)
-  node = is ∙ ap (λ (m : ℕ). inArrays (nodeOf firstLayout m x)) few
+  -- the same, of the clocks and the node that the code has
+  module _ (kk : ℕ) (n : Node) (few : kk ≡ fewClocks e k) (is : n ≡ nodeIn e kk x) where
+    node : n ≡ inArrays u
+    node = is ∙ ap (λ (m : ℕ). nodeIn e m x) few
 
-  whole : {b : Bool} → occurs 0 (take kk (n .region .class)) ≡ b
-      → occurs 0 (take (fewClocks k) (inArrays (nodeOf firstLayout (fewClocks k) x) .region .class)) ≡ b
-  whole h = sym (ap₂ (λ (m : ℕ) (n : Node). occurs 0 (take m (n .region .class))) few node) ∙ h
+    whole : {b : Bool} → occurs 0 (take kk (n .region .class)) ≡ b → occurs 0 (take (fewClocks e k) (inArrays u .region .class)) ≡ b
+    whole h = sym (ap₂ (λ (m : ℕ) (n : Node). occurs 0 (take m (n .region .class))) few node) ∙ h
 
-  corner : n .corner ≡ nodeOf firstLayout (fewClocks k) x .corner
-  corner = ap (λ (m : Node). m .corner) node
+    corner : n .corner ≡ u .corner
+    corner = ap (λ (m : Node). m .corner) node
 
-  top : largest (n .region .class) ≡ largest (inArrays (nodeOf firstLayout (fewClocks k) x) .region .class)
-  top = ap (λ (m : Node). largest (m .region .class)) node
+    top : largest (n .region .class) ≡ largest (inArrays u .region .class)
+    top = ap (λ (m : Node). largest (m .region .class)) node
 
-  pub some-whole : occurs 0 (take kk (n .region .class)) ≡ true → refusedStep 16 ≡ answered 32 (stepBy firstLayout (alone k blankEdge l) x 32)
-  some-whole h = unit-whole k l x (whole h)
+    pub some-whole : occurs 0 (take kk (n .region .class)) ≡ true → refusedStep 16 ≡ answered 32 (stepBy y A x 32)
+    some-whole h = unit-whole (whole h)
 
-  pub early : (n .corner ≡ largest (n .region .class) → ⊥) → refusedStep 16 ≡ answered 32 (stepBy firstLayout (alone k blankEdge l) x 32)
-  early d = unit-early k l x (λ q. d (corner ∙ q ∙ sym top))
+    pub early : (n .corner ≡ largest (n .region .class) → ⊥) → refusedStep 16 ≡ answered 32 (stepBy y A x 32)
+    early d = unit-early (λ q. d (corner ∙ q ∙ sym top))
 
-  pub turned : (c : ℤ) → c ≡ l .cost → occurs 0 (take kk (n .region .class)) ≡ false → n .corner ≡ largest (n .region .class)
-      → (z : ℕ) → z ≡ number firstLayout (fromArrays (record { location = n .location; region = n .region; corner = 0 }))
-      → _≡_ {A = Stepped} (record { refusal = 0; number = z; cost = c; reward = l .reward; units = 1 }) (answered 32 (stepBy firstLayout (alone k blankEdge l) x 32))
-  turned c p h q z e = (λ i. record {
-    refusal = 0;
-    number = (e ∙ ap (λ (m : Node). number firstLayout (fromArrays (record { location = m .location; region = m .region; corner = 0 }))) node) i;
-    cost = p i;
-    reward = l .reward;
-    units = 1;
-  })
-      ∙ unit-taken k l x (whole h) (sym corner ∙ q ∙ top)
+    pub turned : (c : ℤ) → c ≡ l .cost → occurs 0 (take kk (n .region .class)) ≡ false → n .corner ≡ largest (n .region .class)
+        → (z : ℕ) → z ≡ numberIn e (record { location = n .location; region = n .region; corner = 0 })
+        → _≡_ {A = Stepped} (record { refusal = 0; number = z; cost = c; reward = l .reward; units = 1 }) (answered 32 (stepBy y A x 32))
+    turned c p h q z r = (λ i. record {
+      refusal = 0;
+      number = (r ∙ ap (λ (m : Node). numberIn e (record { location = m .location; region = m .region; corner = 0 })) node) i;
+      cost = p i;
+      reward = l .reward;
+      units = 1;
+    })
+        ∙ unit-taken (whole h) (sym corner ∙ q ∙ top)
 
-  pub risen : (v : Node) → v ≡ afterRise kk n → occurs 0 (take kk (n .region .class)) ≡ true
-      → (z : Stepped) → z ≡ answered 33 (only (boundsIn (l .upper) kk (v .region)) (free (number firstLayout (fromArrays v))))
-      → z ≡ answered 33 (stepBy firstLayout (alone k blankEdge l) x 33)
-  risen v q h z e = e ∙ ap₂ (λ (m : ℕ) (w : Node). answered 33 (only (boundsIn (l .upper) m (w .region)) (free (number firstLayout (fromArrays w))))) few
-      (q ∙ ap₂ afterRise few node) ∙ move-rises k l x (whole h)
+    pub risen : (v : Node) → v ≡ afterRise kk n → occurs 0 (take kk (n .region .class)) ≡ true → (z : Stepped) → z ≡ lands kk v
+        → z ≡ answered 33 (stepBy y A x 33)
+    risen v q h z r = r ∙ ap₂ lands few (q ∙ ap₂ afterRise few node) ∙ move-rises (whole h)
 
-  pub carried : (g : ℕ) → g ≡ largest (n .region .class) → (v : Node) → v ≡ afterCarry g n → occurs 0 (take kk (n .region .class)) ≡ false → n .corner < g
-      → (z : Stepped) → z ≡ answered 33 (only (boundsIn (l .upper) kk (v .region)) (free (number firstLayout (fromArrays v))))
-      → z ≡ answered 33 (stepBy firstLayout (alone k blankEdge l) x 33)
-  carried g r v q h c z e = e ∙ ap₂ (λ (m : ℕ) (w : Node). answered 33 (only (boundsIn (l .upper) m (w .region)) (free (number firstLayout (fromArrays w))))) few
-      (q ∙ ap (afterCarry g) node) ∙ move-carries k l x g (r ∙ top) (whole h) (omega (arith, corner))
+    pub carried : (g : ℕ) → g ≡ largest (n .region .class) → (v : Node) → v ≡ afterCarry g n → occurs 0 (take kk (n .region .class)) ≡ false → n .corner < g
+        → (z : Stepped) → z ≡ lands kk v → z ≡ answered 33 (stepBy y A x 33)
+    carried g t v q h c z r = r ∙ ap₂ lands few (q ∙ ap (afterCarry g) node) ∙ move-carries g (t ∙ top) (whole h) (omega (arith, corner))
 
-  pub stays : (g : ℕ) → g ≡ largest (n .region .class) → occurs 0 (take kk (n .region .class)) ≡ false → g ≤ n .corner
-      → refusedStep 16 ≡ answered 33 (stepBy firstLayout (alone k blankEdge l) x 33)
-  stays g r h c = move-none k l x (whole h) (omega (arith, corner, top, r))
+    pub stays : (g : ℕ) → g ≡ largest (n .region .class) → occurs 0 (take kk (n .region .class)) ≡ false → g ≤ n .corner
+        → refusedStep 16 ≡ answered 33 (stepBy y A x 33)
+    stays g r h c = move-none (whole h) (omega (arith, corner, top, r))
 
 -- a free step to a node that lies within the bounds, or does not
 pub free-yes : (b : Bool) (z m : ℕ) → b ≡ true → z ≡ m → _≡_ {A = Stepped} (record { refusal = 0; number = z; cost = pos 0; reward = 0; units = 0 }) (answered 33 (only b (free m)))

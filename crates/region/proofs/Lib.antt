@@ -1,7 +1,9 @@
 pub mod BitLaws
 pub mod ClockLaws
 pub mod DigitLaws
+pub mod PadLaws
 pub mod ArrayLaws
+pub mod PackLaws
 pub mod NodeLaws
 pub mod EdgeLaws
 pub mod DelayLaws

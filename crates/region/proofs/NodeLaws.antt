@@ -1,11 +1,13 @@
 -- The node of a number in arrays.
 use mathlib.Core.Path.{_≡_, refl, sym, ap, ap₂, _∙_, subst}
-use mathlib.Core.List.{List, [], _∷_, map, zipWith}
-use Prim.Native.Nat.{ℕ, zero, suc, _+_, _≤_, _<_}
-use native.Mathlib.Nat.{mod-lt}
+use mathlib.Core.Bool.{false}
+use mathlib.Core.List.{List, map, zipWith}
+use Prim.Native.Nat.{ℕ, zero, suc, _+_, _/_, _^_, _≤_, _<_}
 use native.Mathlib.Omega.{arith}
-use lib.Dec.{lit<}
+use borrow.Author.Tests.{ne-eqb}
+use lib.Dec.{eqb}
 use lib.ListN.{length, getD, take, length-map}
+use lib.Pow.{pow-pos}
 use Rattle.automaton.specs.Bounds.{interval}
 use Rattle.automaton.specs.Ranks.{rank, closeUp, mask}
 use Rattle.automaton.specs.Nodes as automaton
@@ -14,39 +16,15 @@ use Rattle.automaton.specs.Steps.{riseTo, carryWhole, carryClass}
 use Rattle.automaton.proofs.Lists.{length-zip}
 use Rattle.automaton.proofs.Ranks.{length-mask, length-close}
 use Rattle.sheet.specs.Maps.{stands}
-use Rattle.nodes.specs.Numbers.{firstLayout, classAt, wholeAt, put, clocksFrom, number, bitsOf, listFrom, nodeOf}
+use Rattle.sheet.specs.Fields.{editionAt}
+use Rattle.nodes.specs.Numbers.{Layout, layoutAt, classAt, wholeAt, put, clocksFrom, number, bitsOf, listFrom, nodeOf}
 use Rattle.nodes.specs.Decoded.{fewClocks}
-use Rattle.region.specs.Arrays.{padded, inArrays, fromArrays, clockPart, intervalsIn, afterEdge, afterRise, afterCarry}
+use Rattle.region.specs.Arrays.{padTo, inArrays, fromArrays, nodeIn, numberIn, intervalsIn, afterEdge, afterRise, afterCarry}
 use Rattle.region.specs.declared.Node.{Node}
-use Rattle.region.proofs.ArrayLaws.{three, take-padded, below-padded, rank-padded, close-padded, mask-padded, rise-padded, class-padded, whole-padded, zip-padded, clocks-padded}
-
-pub few-le : (k : ℕ) → fewClocks k ≤ 3
-few-le k = omega arith
-
--- ---- unpacking and packing
-
-pub unpacked : (k x : ℕ) → k ≤ 3
-    → _≡_ {A = Node} (record {
-      location = bitsOf x 4 20;
-      region = record {
-        whole = clockPart x k 0 4 4 ∷ clockPart x k 1 4 10 ∷ clockPart x k 2 4 16 ∷ [];
-        class = clockPart x k 0 2 2 ∷ clockPart x k 1 2 8 ∷ clockPart x k 2 2 14 ∷ [];
-      };
-      corner = bitsOf x 2 0;
-    }) (inArrays (nodeOf firstLayout k x))
-unfolding nodeOf listFrom
-unpacked zero x h = refl
-unpacked (suc zero) x h = refl
-unpacked (suc (suc zero)) x h = refl
-unpacked (suc (suc (suc zero))) x h = refl
-unpacked (suc (suc (suc (suc k)))) x h = absurd (omega arith)
-
-pub packed : (n : Node) → length (n .region .whole) ≡ 3 → length (n .region .class) ≡ 3
-    → put (n .corner) 2 0 + put (getD (n .region .class) 0 0) 2 2 + put (getD (n .region .whole) 0 0) 4 4 + put (getD (n .region .class) 1 0) 2 8
-    + put (getD (n .region .whole) 1 0) 4 10 + put (getD (n .region .class) 2 0) 2 14 + put (getD (n .region .whole) 2 0) 4 16 + put (n .location) 4 20
-    ≡ number firstLayout (fromArrays n)
-unfolding number clocksFrom
-packed n h k = omega (arith, ap₂ (clocksFrom firstLayout 0) (three (n .region .whole) h) (three (n .region .class) k))
+use Rattle.region.proofs.BitLaws.{low-below}
+use Rattle.sheet.proofs.FieldLaws.{edition-clocks}
+use Rattle.nodes.proofs.LayoutLaws.{narrow}
+use Rattle.region.proofs.PadLaws.{take-pad, take-fewer, pad-below, map-pad, mask-pad, rank-pad, close-pad, zip-pad, zip-front, clocks-pad}
 
 -- ---- the parts of the node of a number
 
@@ -66,88 +44,78 @@ pub record Sized (k : ℕ) (u : automaton.Node) : Type 0 where
   pub wholes : length (u .region .whole) ≡ k
   pub classes : length (u .region .class) ≡ k
 
-pub sized : (k x : ℕ) → Sized k (nodeOf firstLayout k x)
+pub sized : (y : Layout) (k x : ℕ) → Sized k (nodeOf y k x)
 unfolding nodeOf
-sized k x = record {
-  wholes = list-long (λ j. bitsOf x 4 (wholeAt firstLayout j)) 0 k;
-  classes = list-long (λ j. bitsOf x 2 (classAt firstLayout j)) 0 k;
+sized y k x = record {
+  wholes = list-long (λ j. bitsOf x 4 (wholeAt y j)) 0 k;
+  classes = list-long (λ j. bitsOf x (y .bits) (classAt y j)) 0 k;
 }
 
-class-below : (k x j : ℕ) → getD (inArrays (nodeOf firstLayout k x) .region .class) j 0 < 4
-unfolding nodeOf
-class-below k x = below-padded 4 (listFrom (λ j. bitsOf x 2 (classAt firstLayout j)) 0 k) (omega arith)
-    (list-below 4 (omega arith) (λ j. bitsOf x 2 (classAt firstLayout j)) (λ j. mod-lt _ (lit< tt)) 0 k)
+-- a list of parts of x, each in at most so many bits
+parts-below : (x width most : ℕ) → width ≤ most → (at : ℕ → ℕ) (k j : ℕ)
+    → getD (padTo 4 (listFrom (λ i. bitsOf x width (at i)) 0 k)) j 0 < 2 ^ most
+parts-below x width most h at k = pad-below (2 ^ most) 4 (listFrom (λ i. bitsOf x width (at i)) 0 k) (pow-pos most)
+    (list-below (2 ^ most) (pow-pos most) (λ i. bitsOf x width (at i)) (λ i. low-below (x / 2 ^ at i) width most h) 0 k)
 
-whole-below : (k x j : ℕ) → getD (inArrays (nodeOf firstLayout k x) .region .whole) j 0 < 16
-unfolding nodeOf
-whole-below k x = below-padded 16 (listFrom (λ j. bitsOf x 4 (wholeAt firstLayout j)) 0 k) (omega arith)
-    (list-below 16 (omega arith) (λ j. bitsOf x 4 (wholeAt firstLayout j)) (λ j. mod-lt _ (lit< tt)) 0 k)
-
-corner-below : (k x : ℕ) → nodeOf firstLayout k x .corner < 4
-unfolding nodeOf
-corner-below k x = mod-lt _ (lit< tt)
-
-module _ (n : Node) (k x : ℕ) (is : n ≡ inArrays (nodeOf firstLayout k x)) where
+module _ (n : Node) (e k x : ℕ) (is : n ≡ nodeIn e k x) where
   pub corner-of : n .corner < 8
-  corner-of = let q : n .corner < 4 = subst (λ (m : Node). m .corner < 4) (sym is) (corner-below k x) in omega arith
+  unfolding nodeOf
+  corner-of = subst (λ (m : Node). m .corner < 8) (sym is) (low-below (x / 2 ^ 0) (layoutAt e .bits) 3 (narrow e))
 
   pub class-of : (j : ℕ) → getD (n .region .class) j 0 < 8
-  class-of j = let q : getD (n .region .class) j 0 < 4 = subst (λ (m : Node). getD (m .region .class) j 0 < 4) (sym is) (class-below k x j) in omega arith
+  unfolding nodeOf
+  class-of j = subst (λ (m : Node). getD (m .region .class) j 0 < 8) (sym is)
+      (parts-below x (layoutAt e .bits) 3 (narrow e) (classAt (layoutAt e)) k j)
 
   pub whole-of : (j : ℕ) → getD (n .region .whole) j 0 < 16
-  whole-of j = subst (λ (m : Node). getD (m .region .whole) j 0 < 16) (sym is) (whole-below k x j)
+  unfolding nodeOf
+  whole-of j = subst (λ (m : Node). getD (m .region .whole) j 0 < 16) (sym is) (parts-below x 4 4 (omega arith) (wholeAt (layoutAt e)) k j)
 
 -- ---- what is done to the arrays is done to the node
 
-module _ (k : ℕ) (few : k ≤ 3) (u : automaton.Node) (h : Sized k u) where
-  pub same-number : number firstLayout (fromArrays (inArrays u)) ≡ number firstLayout u
+module _ {k : ℕ} {u : automaton.Node} (h : Sized k u) where
+  same-length : length (u .region .whole) ≡ length (u .region .class)
+  same-length = h .wholes ∙ sym (h .classes)
+
+  -- the clocks that the sheet does not have add nothing
+  same-number : (y : Layout) (most : ℕ) → k ≤ most → most ≤ 4 → number y (fromArrays most (inArrays u)) ≡ number y u
   unfolding number
-  same-number = ap (λ (x : ℕ). put (u .corner) 2 0 + x + put (u .location) 4 20)
-      (clocks-padded (u .region .whole) (u .region .class) (h .wholes ∙ sym (h .classes)) (omega (arith, h .classes)))
-
-  pub same-intervals : intervalsIn k (inArrays u .region) ≡ intervals (u .region)
-  same-intervals = ap (λ (n : ℕ). take n (zipWith interval (padded (u .region .whole)) (padded (u .region .class)))) (sym (h .classes))
-      ∙ zip-padded interval (u .region .whole) (u .region .class) (h .wholes ∙ sym (h .classes)) (omega (arith, h .classes))
-
-  pub same-class : take k (inArrays u .region .class) ≡ u .region .class
-  same-class = ap (λ (n : ℕ). take n (padded (u .region .class))) (sym (h .classes)) ∙ take-padded (u .region .class) (omega (arith, h .classes))
-
-  pub rise-arrays : afterRise k (inArrays u) ≡ inArrays (riseTo u)
-  rise-arrays = λ i. record {
-    location = u .location;
-    region = record { whole = padded (u .region .whole); class = (ap (λ (n : ℕ). afterRise n (inArrays u) .region .class) (sym (h .classes)) ∙ rise-padded (u .region .class) (omega (arith, h .classes))) i };
-    corner = suc (u .corner);
-  }
-
-  pub edge-arrays : (target reset : ℕ) → afterEdge (inArrays u) target reset ≡ inArrays (record {
-    location = target;
-    region = record { whole = mask (stands reset) (u .region .whole); class = closeUp (mask (stands reset) (u .region .class)) };
-    corner = rank (mask (stands reset) (u .region .class)) (u .corner);
-  })
-  edge-arrays target reset =
-      let m = mask-padded (stands reset) (u .region .class) (omega (arith, h .classes)) in
-      let n : length (mask (stands reset) (u .region .class)) ≤ 3 = omega (arith, length-mask (stands reset) (u .region .class), h .classes) in
-      λ i. record {
-        location = target;
-        region = record {
-          whole = mask-padded (stands reset) (u .region .whole) (omega (arith, h .wholes)) i;
-          class = (ap closeUp m ∙ close-padded (mask (stands reset) (u .region .class)) n) i;
-        };
-        corner = (ap (λ (ks : List ℕ). rank ks (u .corner)) m ∙ rank-padded (mask (stands reset) (u .region .class)) n (u .corner)) i;
-      }
-
-  pub edge-sized : (target reset : ℕ) → Sized k (record {
-    location = target;
-    region = record { whole = mask (stands reset) (u .region .whole); class = closeUp (mask (stands reset) (u .region .class)) };
-    corner = rank (mask (stands reset) (u .region .class)) (u .corner);
-  })
-  edge-sized target reset = record {
-    wholes = length-mask (stands reset) (u .region .whole) ∙ h .wholes;
-    classes = length-close (mask (stands reset) (u .region .class)) ∙ length-mask (stands reset) (u .region .class) ∙ h .classes;
-  }
+  same-number y most l m = ap (λ (x : ℕ). put (u .corner) (y .bits) 0 + x + put (u .location) 4 (y .location))
+      (ap₂ (clocksFrom y 0) (take-fewer most 4 (u .region .whole) m) (take-fewer most 4 (u .region .class) m)
+      ∙ clocks-pad y most 0 (u .region .whole) (u .region .class) same-length (omega (arith, h .classes)))
 
   pub rise-sized : Sized k (riseTo u)
   rise-sized = record { wholes = h .wholes; classes = length-map (u .region .class) suc ∙ h .classes }
+
+  module _ (target reset : ℕ) where
+    abbrev edged : automaton.Node
+    edged = record {
+      location = target;
+      region = record { whole = mask (stands reset) (u .region .whole); class = closeUp (mask (stands reset) (u .region .class)) };
+      corner = rank (mask (stands reset) (u .region .class)) (u .corner);
+    }
+
+    same-masked : length (mask (stands reset) (u .region .class)) ≡ k
+    same-masked = length-mask (stands reset) (u .region .class) ∙ h .classes
+
+    pub edge-sized : Sized k edged
+    edge-sized = record {
+      wholes = length-mask (stands reset) (u .region .whole) ∙ h .wholes;
+      classes = length-close (mask (stands reset) (u .region .class)) ∙ same-masked;
+    }
+
+    pub edge-arrays : k ≤ 4 → afterEdge (inArrays u) target reset ≡ inArrays edged
+    edge-arrays few =
+        let m = mask-pad (stands reset) 4 (u .region .class) in
+        let n : length (mask (stands reset) (u .region .class)) ≤ 4 = omega (arith, same-masked) in
+        λ i. record {
+          location = target;
+          region = record {
+            whole = mask-pad (stands reset) 4 (u .region .whole) i;
+            class = (ap closeUp m ∙ close-pad 4 (mask (stands reset) (u .region .class)) n) i;
+          };
+          corner = (ap (λ (ks : List ℕ). rank ks (u .corner)) m ∙ rank-pad 4 (mask (stands reset) (u .region .class)) n (u .corner)) i;
+        }
 
   module _ (g : ℕ) where
     abbrev carried : automaton.Node
@@ -157,18 +125,38 @@ module _ (k : ℕ) (few : k ≤ 3) (u : automaton.Node) (h : Sized k u) where
       corner = u .corner;
     }
 
+    pub carry-sized : Sized k carried
+    carry-sized = record {
+      wholes = length-zip (carryWhole g) (u .region .whole) (u .region .class) same-length ∙ h .wholes;
+      classes = length-map (u .region .class) (carryClass g) ∙ h .classes;
+    }
+
+    -- the clocks that the sheet does not have are of class 0, and g is above it
     pub carry-arrays : 0 < g → afterCarry g (inArrays u) ≡ inArrays carried
-    carry-arrays above = λ i. record {
+    carry-arrays above = let apart : eqb 0 g ≡ false = ne-eqb 0 g (λ e. omega arith) in λ i. record {
       location = u .location;
       region = record {
-        whole = whole-padded g above (u .region .whole) (u .region .class) (h .wholes ∙ sym (h .classes)) (omega (arith, h .classes)) i;
-        class = class-padded g above (u .region .class) (omega (arith, h .classes)) i;
+        whole = zip-pad (carryWhole g) (simp apart) 4 (u .region .whole) (u .region .class) same-length i;
+        class = map-pad (carryClass g) (simp apart) 4 (u .region .class) i;
       };
       corner = u .corner;
     }
 
-    pub carry-sized : Sized k carried
-    carry-sized = record {
-      wholes = length-zip (carryWhole g) (u .region .whole) (u .region .class) (h .wholes ∙ sym (h .classes)) ∙ h .wholes;
-      classes = length-map (u .region .class) (carryClass g) ∙ h .classes;
-    }
+  module _ (few : k ≤ 4) where
+    pub same-intervals : intervalsIn k (inArrays u .region) ≡ intervals (u .region)
+    same-intervals = ap (λ (n : ℕ). take n (zipWith interval (padTo 4 (u .region .whole)) (padTo 4 (u .region .class)))) (sym (h .classes))
+        ∙ zip-front interval 4 (u .region .whole) (u .region .class) same-length (omega (arith, h .classes))
+
+    pub same-class : take k (inArrays u .region .class) ≡ u .region .class
+    same-class = ap (λ (n : ℕ). take n (padTo 4 (u .region .class))) (sym (h .classes)) ∙ take-pad 4 (u .region .class) (omega (arith, h .classes))
+
+    pub rise-arrays : afterRise k (inArrays u) ≡ inArrays (riseTo u)
+    rise-arrays = ap (λ (ks : List ℕ). record {
+      location = u .location;
+      region = record { whole = padTo 4 (u .region .whole); class = padTo 4 (map suc ks) };
+      corner = suc (u .corner);
+    }) same-class
+
+-- a sheet has no more clocks than its edition
+pub own-number : (e k : ℕ) {u : automaton.Node} → Sized (fewClocks e k) u → numberIn e (inArrays u) ≡ number (layoutAt e) u
+own-number e k h = same-number h (layoutAt e) (editionAt e .clocks) (omega arith) (edition-clocks e)

@@ -1,4 +1,4 @@
--- Nodes by value, in arrays of three, what becomes of them, and the numbers that ranks are worked out by: only functions inside the crate are told by these.
+-- Nodes by value, in arrays of four, what becomes of them, and the numbers that ranks are worked out by: only functions inside the crate are told by these.
 use mathlib.Core.Bool.{Bool, cond, _&&_}
 use mathlib.Core.List.{List, [], _∷_, map, zipWith}
 use Prim.Native.Nat.{ℕ, zero, suc, _+_, _*_}
@@ -10,31 +10,43 @@ use Rattle.automaton.specs.Ranks.{rank, closeUp, mask}
 use Rattle.automaton.specs.Nodes as automaton
 use Rattle.automaton.specs.Steps.{carryWhole, carryClass}
 use Rattle.sheet.specs.Maps.{stands}
-use Rattle.nodes.specs.Numbers.{bitsOf}
+use Rattle.sheet.specs.Fields.{editionAt}
+use Rattle.nodes.specs.Numbers.{layoutAt, number, nodeOf}
 use Rattle.nodes.specs.Decoded.{guardOf}
 use Rattle.region.specs.declared.Region.{Region}
 use Rattle.region.specs.declared.Node.{Node}
 
--- three entries, 0 after those of the list
-abbrev pub padded : List ℕ → List ℕ
-padded xs = getD xs 0 0 ∷ getD xs 1 0 ∷ getD xs 2 0 ∷ []
+-- n entries, 0 after those of the list
+unfoldable pub padTo : ℕ → List ℕ → List ℕ
+padTo zero xs = []
+padTo (suc n) [] = 0 ∷ padTo n []
+padTo (suc n) (x ∷ xs) = x ∷ padTo n xs
 
 abbrev pub inArrays : automaton.Node → Node
 inArrays u = record {
   location = u .location;
-  region = record { whole = padded (u .region .whole); class = padded (u .region .class) };
+  region = record { whole = padTo 4 (u .region .whole); class = padTo 4 (u .region .class) };
   corner = u .corner;
 }
 
-abbrev pub fromArrays : Node → automaton.Node
-fromArrays n = record {
+-- the first clocks of a node in arrays
+abbrev pub fromArrays : ℕ → Node → automaton.Node
+fromArrays clocks n = record {
   location = n .location;
-  region = record { whole = n .region .whole; class = n .region .class };
+  region = record { whole = take clocks (n .region .whole); class = take clocks (n .region .class) };
   corner = n .corner;
 }
 
-abbrev pub clockPart : ℕ → ℕ → ℕ → ℕ → ℕ → ℕ
-clockPart x clocks j width at = cond (ltb j clocks) (bitsOf x width at) 0
+-- by the edition: the node of a number, for so many clocks, and the number of a node
+abbrev pub nodeIn : ℕ → ℕ → ℕ → Node
+nodeIn e clocks x = inArrays (nodeOf (layoutAt e) clocks x)
+
+abbrev pub numberIn : ℕ → Node → ℕ
+numberIn e n = number (layoutAt e) (fromArrays (editionAt e .clocks) n)
+
+-- of a part v of clock j: 0 where the sheet has no such clock
+abbrev pub ifClock : ℕ → ℕ → ℕ → ℕ
+ifClock clocks j v = cond (ltb j clocks) v 0
 
 -- n hexadecimal digits, digit 0 the lowest
 unfoldable pub hexadecimal : (ℕ → ℕ) → ℕ → ℕ
@@ -62,9 +74,6 @@ guardHolds lower upper i = lowerHolds lower i && ifPresent upperHolds (guardOf u
 unfoldable pub guardsIn : List ℕ → List ℕ → ℕ → Region → Bool
 guardsIn lower upper clocks r = every (λ j x. guardHolds (getD lower j 0) (getD upper j 0) x) (intervalsIn clocks r)
 
-abbrev pub maskedRegion : ℕ → Region → Region
-maskedRegion reset r = record { whole = mask (stands reset) (r .whole); class = mask (stands reset) (r .class) }
-
 abbrev pub afterEdge : Node → ℕ → ℕ → Node
 afterEdge n target reset = record {
   location = target;
@@ -72,16 +81,12 @@ afterEdge n target reset = record {
   corner = rank (mask (stands reset) (n .region .class)) (n .corner);
 }
 
-abbrev pub risenClass : ℕ → ℕ → ℕ → ℕ
-risenClass clocks j k = cond (ltb j clocks) (suc k) 0
-
 abbrev pub afterRise : ℕ → Node → Node
 afterRise clocks n = record {
   location = n .location;
   region = record {
     whole = n .region .whole;
-    class = risenClass clocks 0 (getD (n .region .class) 0 0) ∷ risenClass clocks 1 (getD (n .region .class) 1 0)
-        ∷ risenClass clocks 2 (getD (n .region .class) 2 0) ∷ [];
+    class = padTo 4 (map suc (take clocks (n .region .class)));
   };
   corner = suc (n .corner);
 }

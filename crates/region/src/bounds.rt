@@ -21,8 +21,8 @@ fn upper_holds(upper: u8, i: u16) -> bool
 }
 
 // Whether the region lies within the upper bytes of its clocks.
-pub(crate) fn inside(region: Region, upper: [u8; 3], clocks: usize) -> bool
-    requires { ⌜ clocks ≤ 3 ⌝ }
+pub(crate) fn inside(region: Region, upper: [u8; 4], clocks: usize) -> bool
+    requires { ⌜ clocks ≤ 4 ⌝ }
     ensures { λ r. ⌜ r ≡ boundsIn upper clocks region ⌝ }
 {
     for j in 0..clocks {
@@ -47,8 +47,8 @@ fn guard_holds(lower: u8, upper: u8, i: u16) -> bool
 }
 
 // Whether the guards of an edge hold in the whole region.
-pub(crate) fn guards_hold(region: Region, lower: [u8; 3], upper: [u8; 3], clocks: usize) -> bool
-    requires { ⌜ clocks ≤ 3 ⌝ }
+pub(crate) fn guards_hold(region: Region, lower: [u8; 4], upper: [u8; 4], clocks: usize) -> bool
+    requires { ⌜ clocks ≤ 4 ⌝ }
     ensures { λ r. ⌜ r ≡ guardsIn lower upper clocks region ⌝ }
 {
     for j in 0..clocks {

@@ -6,13 +6,13 @@ ghost use lib.Dec.{leb};
 ghost use lib.ListN.{getD};
 ghost use Rattle.automaton.specs.Ranks.{largest};
 ghost use Rattle.automaton.specs.Nodes.{usesEachRank};
-ghost use Rattle.nodes.specs.Numbers.{firstLayout, isNumber};
+ghost use Rattle.nodes.specs.Numbers.{layoutAt, isNumber};
 ghost use Rattle.nodes.specs.Decoded.{alone};
 ghost use Rattle.sheet.specs.Decoded.{blankEdge};
 use sheet::Location;
 
 // Each rank is used, and the corner is one of the region's.
-fn is_cornered(class: [u8; 3], corner: u8) -> bool
+fn is_cornered(class: [u8; 4], corner: u8) -> bool
     requires { ⌜ ((j : ℕ) → getD class j 0 < 8) ⌝ }
     ensures { λ r. ⌜ r ≡ usesEachRank class && leb corner (largest class) ⌝ }
 {
@@ -23,14 +23,14 @@ fn is_cornered(class: [u8; 3], corner: u8) -> bool
     corner <= g
 }
 
-// Whether the number is that of a node, by its location's record. Takes for granted that the sheet has so many clocks and the location that the number
-// tells, and that `location` is that one's record.
-pub fn is_number(number: u32, clocks: u8, location: Location) -> bool
-    ensures { λ r. ⌜ r ≡ isNumber firstLayout (alone clocks blankEdge location) number ⌝ }
+// Whether the number is that of a node, by its location's record. Takes for granted that the sheet has that edition, so many clocks and the location
+// that the number tells, and that `location` is that one's record.
+pub fn is_number(number: u64, edition: u8, clocks: u8, location: Location) -> bool
+    ensures { λ r. ⌜ r ≡ isNumber (layoutAt edition) (alone edition clocks blankEdge location) number ⌝ }
 {
-    let k = crate::few(clocks);
-    let node = crate::numbers::unpack(number, k);
-    if crate::numbers::pack(node) != number {
+    let k = crate::few(edition, clocks);
+    let node = crate::numbers::unpack(number, edition, k);
+    if crate::numbers::pack(node, edition) != number {
         return false;
     }
     let region = node.region;

@@ -8,8 +8,8 @@ ghost use Rattle.nodes.specs.Numbers.{bitsOf};
 ghost use Rattle.region.specs.Arrays.{valueDigits, rankDigits};
 
 // Whether a value occurs among the first clocks.
-pub(crate) fn occurs_in(class: [u8; 3], clocks: usize, v: u8) -> bool
-    requires { ⌜ clocks ≤ 3 ⌝ }
+pub(crate) fn occurs_in(class: [u8; 4], clocks: usize, v: u8) -> bool
+    requires { ⌜ clocks ≤ 4 ⌝ }
     ensures { λ r. ⌜ r ≡ occurs v (take clocks class) ⌝ }
 {
     for j in 0..clocks {
@@ -21,19 +21,19 @@ pub(crate) fn occurs_in(class: [u8; 3], clocks: usize, v: u8) -> bool
 }
 
 // A hexadecimal digit for each value below 8: 1 where it occurs.
-fn value_digits(class: [u8; 3]) -> u32
+fn value_digits(class: [u8; 4]) -> u32
     requires { ⌜ ((j : ℕ) → getD class j 0 < 8) ⌝ }
     ensures { λ r. ⌜ r ≡ valueDigits class ⌝ }
 {
     let mut digits: u32 = 0;
-    for j in 0..3usize {
+    for j in 0..4usize {
         digits = digits | (1 << (4 * (class[j] as u32)));
     }
     digits
 }
 
 // A hexadecimal digit for each t below 8: its rank. The product adds the digit of each value, but for that of 0, to its own place and to all above it.
-fn rank_digits(class: [u8; 3]) -> u32
+fn rank_digits(class: [u8; 4]) -> u32
     requires { ⌜ ((j : ℕ) → getD class j 0 < 8) ⌝ }
     ensures { λ r. ⌜ r ≡ rankDigits class ⌝ }
 {
@@ -45,11 +45,11 @@ fn digit(digits: u32, t: u8) -> u8
     requires { ⌜ t < 8 ⌝ }
     ensures { λ r. ⌜ r ≡ bitsOf digits 4 (4 * t) ⌝ }
 {
-    crate::numbers::bits(digits, 4, 4 * (t as u32))
+    crate::numbers::bits(digits as u64, 4, 4 * (t as u32))
 }
 
 // How many of the values 1 to t occur.
-pub(crate) fn rank_of(class: [u8; 3], t: u8) -> u8
+pub(crate) fn rank_of(class: [u8; 4], t: u8) -> u8
     requires { ⌜ ((j : ℕ) → getD class j 0 < 8) × (t < 8) ⌝ }
     ensures { λ r. ⌜ r ≡ rank class t ⌝ }
 {
@@ -57,13 +57,13 @@ pub(crate) fn rank_of(class: [u8; 3], t: u8) -> u8
 }
 
 // Emptied ranks close up.
-pub(crate) fn close_up(class: [u8; 3]) -> [u8; 3]
+pub(crate) fn close_up(class: [u8; 4]) -> [u8; 4]
     requires { ⌜ ((j : ℕ) → getD class j 0 < 8) ⌝ }
     ensures { λ r. ⌜ r ≡ closeUp class ⌝ }
 {
     let digits = rank_digits(class);
-    let mut closed = [0u8; 3];
-    for j in 0..3usize {
+    let mut closed = [0u8; 4];
+    for j in 0..4usize {
         closed[j] = digit(digits, class[j]);
     }
     closed
@@ -75,8 +75,8 @@ fn larger(a: u8, b: u8) -> u8
     if a < b { b } else { a }
 }
 
-pub(crate) fn largest_of(class: [u8; 3]) -> u8
+pub(crate) fn largest_of(class: [u8; 4]) -> u8
     ensures { λ r. ⌜ r ≡ largest class ⌝ }
 {
-    larger(class[0], larger(class[1], class[2]))
+    larger(class[0], larger(class[1], larger(class[2], class[3])))
 }

@@ -4,11 +4,10 @@ use mathlib.Core.Bool.{Bool, true, false, _&&_}
 use mathlib.Core.List.{List}
 use Prim.Native.Nat.{ℕ, suc, _≤_}
 use native.Mathlib.Omega.{arith}
-use lib.Dec.{eqb}
 use lib.ListN.{length}
 use Rattle.sheet.specs.Bytes.{byteAt}
 use Rattle.sheet.specs.Fields.{isWithin}
-use Rattle.sheet.specs.Records.{locationsIn, clocksIn, edgesIn}
+use Rattle.sheet.specs.Records.{editionOf, locationsIn, clocksIn, edgesIn}
 use Rattle.sheet.specs.Questions.{ask, checkOf, recordsCode}
 use Rattle.sheet.proofs.FieldLaws.{bounds}
 
@@ -29,32 +28,32 @@ right true b h = h
 right false b h = let z : _≡_ {A = ℕ} 0 1 = cc in absurd (omega arith)
 
 pub record Header (s : List ℕ) : Type 0 where
-  pub long : (4 ≤ length s) × (length s ≤ 580)
-  pub edition : eqb (byteAt s 0) 1 ≡ true
+  pub long : (4 ≤ length s) × (length s ≤ 656)
+  pub edition : (1 ≤ byteAt s 0) × (byteAt s 0 ≤ 2)
   pub locations : (1 ≤ locationsIn s) × (locationsIn s ≤ 12)
-  pub clocks : (1 ≤ clocksIn s) × (clocksIn s ≤ 3)
+  pub clocks : (1 ≤ clocksIn s) × (clocksIn s ≤ editionOf s .clocks)
   pub edges : edgesIn s ≤ 32
   pub records : recordsCode (clocksIn s) (locationsIn s) (edgesIn s) s ≡ 0
 
 pub header : (s : List ℕ) → checkOf s ≡ 0 → Header s
 unfolding checkOf
 header s h = record {
-  long = bounds (length s) 4 580 (ask-yes 1 sized (ask 3 edition (ask 4 counts records)) h);
-  edition = ask-yes 2 edition (ask 4 counts records) after-2;
+  long = bounds (length s) 4 656 (ask-yes 1 sized (ask 3 edition (ask 4 counts records)) h);
+  edition = bounds (byteAt s 0) 1 2 (ask-yes 2 edition (ask 4 counts records) after-2);
   locations = bounds (locationsIn s) 1 12 (left (isWithin (locationsIn s) 1 12) others counted);
-  clocks = bounds (clocksIn s) 1 3 (left (isWithin (clocksIn s) 1 3) (isWithin (edgesIn s) 0 32) clocked);
-  edges = bounds (edgesIn s) 0 32 (right (isWithin (clocksIn s) 1 3) (isWithin (edgesIn s) 0 32) clocked) .1;
+  clocks = bounds (clocksIn s) 1 (editionOf s .clocks) (left (isWithin (clocksIn s) 1 (editionOf s .clocks)) (isWithin (edgesIn s) 0 32) clocked);
+  edges = bounds (edgesIn s) 0 32 (right (isWithin (clocksIn s) 1 (editionOf s .clocks)) (isWithin (edgesIn s) 0 32) clocked) .1;
   records = ask-rest 3 counts records after-3;
 }
   where
     sized : Bool
-    sized = isWithin (length s) 4 580
+    sized = isWithin (length s) 4 656
 
     edition : Bool
-    edition = eqb (byteAt s 0) 1
+    edition = isWithin (byteAt s 0) 1 2
 
     others : Bool
-    others = isWithin (clocksIn s) 1 3 && isWithin (edgesIn s) 0 32
+    others = isWithin (clocksIn s) 1 (editionOf s .clocks) && isWithin (edgesIn s) 0 32
 
     counts : Bool
     counts = isWithin (locationsIn s) 1 12 && others

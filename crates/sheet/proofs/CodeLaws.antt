@@ -8,8 +8,8 @@ use lib.Dec.{eqb}
 use lib.ListN.{length}
 use Rattle.sheet.specs.Bytes.{byteAt}
 use Rattle.sheet.specs.Maps.{bitOf, stands}
-use Rattle.sheet.specs.Fields.{firstEdition, isWithin, fieldOf, permittedField, inRange}
-use Rattle.sheet.specs.Records.{mapBytes, mapOf, fieldPlace, valueAt, recordLength, recordAt, locationAt, locationsIn, clocksIn, edgesIn}
+use Rattle.sheet.specs.Fields.{Edition, isWithin, fieldOf, permittedField, inRange}
+use Rattle.sheet.specs.Records.{mapBytes, mapOf, fieldPlace, valueAt, recordLength, recordAt, editionOf, locationAt, locationsIn, clocksIn, edgesIn}
 use Rattle.sheet.specs.Questions.{ask, orElse, each, firstOf, whereThere, bitGood, mapCode, fieldGood, endsCode, locationCode, edgeCode, distinctCode, startCode, restCode, recordsCode, checkOf}
 use Rattle.sheet.specs.declared.fields.Kind.{Kind}
 use Rattle.sheet.specs.declared.fields.Kind.the-variants.{EdgeRecord}
@@ -24,13 +24,13 @@ set-bit m b h = simp (ne-eqb _ _ h)
 
 -- ---- questions 5 and 6
 
-pub bit-clear : (kind : Kind) (k m b : ℕ) → bitOf m b ≡ 0 → bitGood kind k m b ≡ true
+pub bit-clear : (y : Edition) (kind : Kind) (k m b : ℕ) → bitOf m b ≡ 0 → bitGood y kind k m b ≡ true
 unfolding bitGood
-bit-clear kind k m b h = simp (eq-eqb _ _ h)
+bit-clear y kind k m b h = simp (eq-eqb _ _ h)
 
-pub bit-is : (kind : Kind) (k m b : ℕ) → (bitOf m b ≡ 0 → ⊥) → bitGood kind k m b ≡ permittedField k (fieldOf firstEdition kind b)
+pub bit-is : (y : Edition) (kind : Kind) (k m b : ℕ) → (bitOf m b ≡ 0 → ⊥) → bitGood y kind k m b ≡ permittedField k (fieldOf y kind b)
 unfolding bitGood
-bit-is kind k m b h = simp (ne-eqb _ _ h)
+bit-is y kind k m b h = simp (ne-eqb _ _ h)
 
 module _ (kind : Kind) (k : ℕ) (s : List ℕ) (at : ℕ) where
   pub no-map : length s < at + mapBytes kind → 5 ≡ mapCode kind k s at
@@ -38,11 +38,11 @@ module _ (kind : Kind) (k : ℕ) (s : List ℕ) (at : ℕ) where
   no-map h = simp (lt-leb _ _ h)
 
   module _ (map-there : at + mapBytes kind ≤ length s) where
-    pub bad-bit : each 16 (bitGood kind k (mapOf kind s at)) ≡ false → 6 ≡ mapCode kind k s at
+    pub bad-bit : each 16 (bitGood (editionOf s) kind k (mapOf kind s at)) ≡ false → 6 ≡ mapCode kind k s at
     unfolding mapCode
     bad-bit h = simp (le-leb _ _ map-there, h)
 
-    module _ (bits-good : each 16 (bitGood kind k (mapOf kind s at)) ≡ true) where
+    module _ (bits-good : each 16 (bitGood (editionOf s) kind k (mapOf kind s at)) ≡ true) where
       pub no-fields : length s < at + recordLength kind s at → 5 ≡ mapCode kind k s at
       unfolding mapCode
       no-fields h = simp (le-leb _ _ map-there, bits-good, lt-leb _ _ h)
@@ -55,12 +55,12 @@ module _ (kind : Kind) (k : ℕ) (s : List ℕ) (at : ℕ) where
 
   pub no-field : (b : ℕ) → bitOf (mapOf kind s at) b ≡ 0 → fieldGood kind k s at b ≡ true
   unfolding fieldGood
-  no-field b h = ap (whereThere (inRange k (fieldOf firstEdition kind b))) (absent kind s at b h)
+  no-field b h = ap (whereThere (inRange k (fieldOf (editionOf s) kind b))) (absent kind s at b h)
 
   pub field-is : (b : ℕ) → (bitOf (mapOf kind s at) b ≡ 0 → ⊥)
-      → fieldGood kind k s at b ≡ inRange k (fieldOf firstEdition kind b) (valueAt s (fieldPlace kind s at b) b)
+      → fieldGood kind k s at b ≡ inRange k (fieldOf (editionOf s) kind b) (valueAt s (fieldPlace kind s at b) b)
   unfolding fieldGood
-  field-is b h = ap (whereThere (inRange k (fieldOf firstEdition kind b))) (there kind s at b h)
+  field-is b h = ap (whereThere (inRange k (fieldOf (editionOf s) kind b))) (there kind s at b h)
 
 -- ---- question 9
 
@@ -130,30 +130,30 @@ module _ (k l e : ℕ) (s : List ℕ) where
 -- ---- questions 2 to 4
 
 module _ (s : List ℕ) where
-  pub bad-length : isWithin (length s) 4 580 ≡ false → 2 ≡ checkOf s
+  pub bad-length : isWithin (length s) 4 656 ≡ false → 2 ≡ checkOf s
   unfolding checkOf
   bad-length h = simp h
 
-  module _ (h : isWithin (length s) 4 580 ≡ true) where
-    pub bad-edition : (byteAt s 0 ≡ 1 → ⊥) → 3 ≡ checkOf s
+  module _ (h : isWithin (length s) 4 656 ≡ true) where
+    pub bad-edition : isWithin (byteAt s 0) 1 2 ≡ false → 3 ≡ checkOf s
     unfolding checkOf
-    bad-edition i = simp (h, ne-eqb _ _ i)
+    bad-edition i = simp (h, i)
 
-    module _ (i : byteAt s 0 ≡ 1) where
+    module _ (i : isWithin (byteAt s 0) 1 2 ≡ true) where
       pub bad-locations : isWithin (locationsIn s) 1 12 ≡ false → 4 ≡ checkOf s
       unfolding checkOf
-      bad-locations a = simp (h, eq-eqb _ _ i, a)
+      bad-locations a = simp (h, i, a)
 
       module _ (a : isWithin (locationsIn s) 1 12 ≡ true) where
-        pub bad-clocks : isWithin (clocksIn s) 1 3 ≡ false → 4 ≡ checkOf s
+        pub bad-clocks : isWithin (clocksIn s) 1 (editionOf s .clocks) ≡ false → 4 ≡ checkOf s
         unfolding checkOf
-        bad-clocks b = simp (h, eq-eqb _ _ i, a, b)
+        bad-clocks b = simp (h, i, a, b)
 
-        module _ (b : isWithin (clocksIn s) 1 3 ≡ true) where
+        module _ (b : isWithin (clocksIn s) 1 (editionOf s .clocks) ≡ true) where
           pub bad-edges : isWithin (edgesIn s) 0 32 ≡ false → 4 ≡ checkOf s
           unfolding checkOf
-          bad-edges c = simp (h, eq-eqb _ _ i, a, b, c)
+          bad-edges c = simp (h, i, a, b, c)
 
           pub header-good : isWithin (edgesIn s) 0 32 ≡ true → recordsCode (clocksIn s) (locationsIn s) (edgesIn s) s ≡ checkOf s
           unfolding checkOf
-          header-good c = simp (h, eq-eqb _ _ i, a, b, c)
+          header-good c = simp (h, i, a, b, c)

@@ -1,5 +1,5 @@
 -- Filling a list from the front.
-use mathlib.Core.Path.{_≡_, sym, ap, _∙_}
+use mathlib.Core.Path.{_≡_, refl, sym, ap, ap₂, _∙_}
 use mathlib.Core.List.{List}
 use Prim.Native.Nat.{ℕ, zero, suc, _+_, _≤_, _<_}
 use native.Mathlib.Decide.{ℕ-discrete}
@@ -28,6 +28,12 @@ module _ {A : Type 0} (f : ℕ → A) (d : A) (n : ℕ) where
         ∙ getD-set-same (filled f d n i) i (f i) d (omega (arith, filled-length i)) ∙ ap f (sym e)
     | no e ↦ getD-set-other (filled f d n i) i k (f i) d e ∙ filled-at i k (omega arith) (omega arith)
   ]
+
+-- by functions that agree on what is set
+pub filled-same : {A : Type 0} (f g : ℕ → A) (d : A) (n i : ℕ) → ((k : ℕ) → k < i → f k ≡ g k) → filled f d n i ≡ filled g d n i
+unfolding filled
+filled-same f g d n zero h = refl
+filled-same {A} f g d n (suc i) h = ap₂ (λ (xs : List A) (v : A). set xs i v) (filled-same f g d n i (λ k l. h k (omega arith))) (h i (omega arith))
 
 -- filled with the entries of a list, it is the list
 pub filled-whole : {A : Type 0} (d : A) (n : ℕ) (xs : List A) → length xs ≡ n → filled (λ j. getD xs j d) d n n ≡ xs

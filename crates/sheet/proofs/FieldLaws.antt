@@ -1,16 +1,16 @@
 -- Fields and their ranges.
 use mathlib.Core.Path.{_≡_, refl, ap}
-use mathlib.Core.Bool.{Bool, true, false, _&&_}
-use Prim.Native.Nat.{ℕ, zero, suc, _-_, _≤_, _<_}
+use mathlib.Core.Bool.{Bool, true, false, cond, _&&_}
+use Prim.Native.Nat.{ℕ, zero, suc, _+_, _-_, _≤_, _<_}
 use native.Mathlib.Nat.{zero-add}
 use native.Mathlib.Omega.{arith}
 use borrow.Author.Tests.{lt-leb, le-leb, lt-ltb, le-ltb, ltb-true, ltb-false, leb-true, ne-eqb}
-use lib.Dec.{leb}
+use lib.Dec.{leb, eqb}
 use lib.IntN.{ℤ, pos, negsuc, _-ℤ_}
 use lib.Signed.{ltZ, leZ}
 use mir.Syntax.{w16}
 use mir.Val.{SFits, ofZ}
-use Rattle.sheet.specs.Fields.{isWithin, costInRange, fieldOf, firstEdition}
+use Rattle.sheet.specs.Fields.{Edition, firstEdition, secondEdition, editionAt, isWithin, costInRange, fieldOf}
 use Rattle.sheet.specs.declared.fields.Kind.the-variants.{LocationRecord, EdgeRecord}
 use Rattle.sheet.specs.declared.fields.Field.the-variants.{Lower, Upper, Unused}
 
@@ -52,42 +52,49 @@ other-cost (pos zero) n h = absurd (n refl)
 other-cost (pos (suc m)) n h = simp (ne-eqb (suc m) 0 (λ e. omega arith))
 other-cost (negsuc m) n h = simp (ne-eqb (suc m) 0 (λ e. omega arith), le-leb (suc m) 10000 (omega (arith, ltb-false 9999 m h)))
 
--- ---- what a bit stands for
+-- ---- editions, and what a bit stands for
 
-module _ (b : ℕ) where
-  pub location-upper : 2 ≤ b → b < 5 → fieldOf firstEdition LocationRecord b ≡ Upper (b - 2)
+pub edition-clocks : (e : ℕ) → editionAt e .clocks ≤ 4
+edition-clocks e = by (eqb e 1)
+  where
+    by : (first : Bool) → cond first firstEdition secondEdition .clocks ≤ 4
+    by true = omega arith
+    by false = omega arith
+
+module _ (y : Edition) (b : ℕ) where
+  pub location-upper : 2 ≤ b → b < 2 + y .clocks → fieldOf y LocationRecord b ≡ Upper (b - 2)
   unfolding fieldOf
-  location-upper h k = simp (ne-eqb b 0 (λ e. omega arith), ne-eqb b 1 (λ e. omega arith), le-leb 2 b h, lt-ltb b 5 k)
+  location-upper h k = simp (ne-eqb b 0 (λ e. omega arith), ne-eqb b 1 (λ e. omega arith), le-leb 2 b h, lt-ltb b (2 + y .clocks) k)
 
-  pub location-unused : 5 ≤ b → fieldOf firstEdition LocationRecord b ≡ Unused
+  pub location-unused : 2 + y .clocks ≤ b → fieldOf y LocationRecord b ≡ Unused
   unfolding fieldOf
-  location-unused h = simp (ne-eqb b 0 (λ e. omega arith), ne-eqb b 1 (λ e. omega arith), le-leb 2 b (omega arith), le-ltb b 5 h)
+  location-unused h = simp (ne-eqb b 0 (λ e. omega arith), ne-eqb b 1 (λ e. omega arith), le-leb 2 b (omega arith), le-ltb b (2 + y .clocks) h)
 
-  pub edge-lower : 3 ≤ b → b < 6 → fieldOf firstEdition EdgeRecord b ≡ Lower (b - 3)
+  pub edge-lower : 3 ≤ b → b < 3 + y .clocks → fieldOf y EdgeRecord b ≡ Lower (b - 3)
   unfolding fieldOf
   edge-lower h k =
-      simp (ne-eqb b 0 (λ e. omega arith), ne-eqb b 1 (λ e. omega arith), ne-eqb b 2 (λ e. omega arith), le-leb 3 b h, lt-ltb b 6 k)
+      simp (ne-eqb b 0 (λ e. omega arith), ne-eqb b 1 (λ e. omega arith), ne-eqb b 2 (λ e. omega arith), le-leb 3 b h, lt-ltb b (3 + y .clocks) k)
 
-  pub edge-upper : 6 ≤ b → b < 9 → fieldOf firstEdition EdgeRecord b ≡ Upper (b - 6)
+  pub edge-upper : 3 + y .clocks ≤ b → b < 3 + y .clocks + y .clocks → fieldOf y EdgeRecord b ≡ Upper (b - (3 + y .clocks))
   unfolding fieldOf
   edge-upper h k = simp (
     ne-eqb b 0 (λ e. omega arith),
     ne-eqb b 1 (λ e. omega arith),
     ne-eqb b 2 (λ e. omega arith),
     le-leb 3 b (omega arith),
-    le-ltb b 6 h,
-    le-leb 6 b h,
-    lt-ltb b 9 k,
+    le-ltb b (3 + y .clocks) h,
+    le-leb (3 + y .clocks) b h,
+    lt-ltb b (3 + y .clocks + y .clocks) k,
   )
 
-  pub edge-unused : 9 ≤ b → fieldOf firstEdition EdgeRecord b ≡ Unused
+  pub edge-unused : 3 + y .clocks + y .clocks ≤ b → fieldOf y EdgeRecord b ≡ Unused
   unfolding fieldOf
   edge-unused h = simp (
     ne-eqb b 0 (λ e. omega arith),
     ne-eqb b 1 (λ e. omega arith),
     ne-eqb b 2 (λ e. omega arith),
     le-leb 3 b (omega arith),
-    le-ltb b 6 (omega arith),
-    le-leb 6 b (omega arith),
-    le-ltb b 9 h,
+    le-ltb b (3 + y .clocks) (omega arith),
+    le-leb (3 + y .clocks) b (omega arith),
+    le-ltb b (3 + y .clocks + y .clocks) h,
   )

@@ -9,16 +9,32 @@ use Rattle.sheet.specs.declared.fields.Kind.the-variants.{LocationRecord
 use Rattle.sheet.specs.declared.fields.Field.{Field}
 use Rattle.sheet.specs.declared.fields.Field.the-variants.{Cost, Reward, Reset, Lower, Upper, Unused}
 
--- where an edition has the bits of clock 0, those of the others following, and how many clocks it has at most
+-- how many clocks an edition has at most; its bits follow from that
 pub record Edition : Type 0 where
   pub clocks : ℕ
-  pub bound : ℕ
-  pub lower : ℕ
-  pub upper : ℕ
 
--- "Bits 2 to 4: upper bound of clocks 0 to 2"; "Bits 3 to 5: lower guard of clocks 0 to 2. Bits 6 to 8: upper guard of clocks 0 to 2."
+-- "clocks K (1 to 3)"
 abbrev pub firstEdition : Edition
-firstEdition = record { clocks = 3; bound = 2; lower = 3; upper = 6 }
+firstEdition = record { clocks = 3 }
+
+-- "Edition 2 allows K up to 4"
+abbrev pub secondEdition : Edition
+secondEdition = record { clocks = 4 }
+
+-- the edition that a first byte stands for; question 3 lets only 1 and 2 pass
+abbrev pub editionAt : ℕ → Edition
+editionAt edition = cond (eqb edition 1) firstEdition secondEdition
+
+-- Bits of clock 0, those of the others following. Location: "Bits 2 to 4: upper bound of clocks 0 to 2"; in edition 2 "bits 2 to 5 are upper bounds".
+abbrev pub boundBit : ℕ
+boundBit = 2
+
+-- Edge: "Bits 3 to 5: lower guard of clocks 0 to 2. Bits 6 to 8: upper guard"; in edition 2 "bits 3 to 6 lower guards and 7 to 10 upper guards"
+abbrev pub lowerBit : ℕ
+lowerBit = 3
+
+abbrev pub upperBit : Edition → ℕ
+upperBit y = lowerBit + y .clocks
 
 -- v is from low to high
 abbrev pub isWithin : ℕ → ℕ → ℕ → Bool
@@ -33,13 +49,13 @@ unfoldable pub fieldOf : Edition → Kind → ℕ → Field
 fieldOf y LocationRecord b =
     cond (eqb b 0) Cost
     (cond (eqb b 1) Reward
-    (cond (ofClock y (y .bound) b) (Upper (b - y .bound)) Unused))
+    (cond (ofClock y boundBit b) (Upper (b - boundBit)) Unused))
 fieldOf y EdgeRecord b =
     cond (eqb b 0) Cost
     (cond (eqb b 1) Reward
     (cond (eqb b 2) Reset
-    (cond (ofClock y (y .lower) b) (Lower (b - y .lower))
-    (cond (ofClock y (y .upper) b) (Upper (b - y .upper)) Unused))))
+    (cond (ofClock y lowerBit b) (Lower (b - lowerBit))
+    (cond (ofClock y (upperBit y) b) (Upper (b - upperBit y)) Unused))))
 
 -- "Other bits, and bits of clocks from K on, stay clear."
 unfoldable pub permittedField : ℕ → Field → Bool

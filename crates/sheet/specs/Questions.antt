@@ -8,8 +8,8 @@ use lib.Dec.{ltb, leb, eqb}
 use lib.ListN.{length}
 use Rattle.sheet.specs.Bytes.{byteAt}
 use Rattle.sheet.specs.Maps.{stands}
-use Rattle.sheet.specs.Fields.{firstEdition, isWithin, fieldOf, permittedField, inRange}
-use Rattle.sheet.specs.Records.{mapBytes, mapOf, fieldAt, boundAt, recordLength, recordAt, locationAt, locationsIn, clocksIn, edgesIn}
+use Rattle.sheet.specs.Fields.{Edition, boundBit, isWithin, fieldOf, permittedField, inRange}
+use Rattle.sheet.specs.Records.{mapBytes, mapOf, fieldAt, boundAt, recordLength, recordAt, editionOf, locationAt, locationsIn, clocksIn, edgesIn}
 use Rattle.sheet.specs.declared.fields.Kind.{Kind}
 use Rattle.sheet.specs.declared.fields.Kind.the-variants.{LocationRecord, EdgeRecord}
 
@@ -37,8 +37,8 @@ whereThere p none = true
 whereThere p (some v) = p v
 
 -- bit b of a map m is clear, or permitted
-unfoldable pub bitGood : Kind → ℕ → ℕ → ℕ → Bool
-bitGood kind k m b = not (stands m b) || permittedField k (fieldOf firstEdition kind b)
+unfoldable pub bitGood : Edition → Kind → ℕ → ℕ → ℕ → Bool
+bitGood y kind k m b = not (stands m b) || permittedField k (fieldOf y kind b)
 
 module _ (kind : Kind) (k : ℕ) (s : List ℕ) (at : ℕ) where
   -- 5. "Are the map bytes there (before 6), and source, target and every byte the map calls for (after 6, before 7)?"
@@ -46,11 +46,11 @@ module _ (kind : Kind) (k : ℕ) (s : List ℕ) (at : ℕ) where
   unfoldable pub mapCode : ℕ
   mapCode =
       ask 5 (leb (at + mapBytes kind) (length s))
-      (ask 6 (each 16 (bitGood kind k (mapOf kind s at)))
+      (ask 6 (each 16 (bitGood (editionOf s) kind k (mapOf kind s at)))
       (ask 5 (leb (at + recordLength kind s at) (length s)) 0))
 
   unfoldable pub fieldGood : ℕ → Bool
-  fieldGood b = whereThere (inRange k (fieldOf firstEdition kind b)) (fieldAt kind s at b)
+  fieldGood b = whereThere (inRange k (fieldOf (editionOf s) kind b)) (fieldAt kind s at b)
 
   -- 8. "Is each field in range"
   unfoldable pub fieldsCode : ℕ
@@ -58,7 +58,7 @@ module _ (kind : Kind) (k : ℕ) (s : List ℕ) (at : ℕ) where
 
 -- 7. "(Location) Does a bound stand for each of the K clocks?"
 unfoldable pub boundsCode : ℕ → List ℕ → ℕ → ℕ
-boundsCode k s at = ask 7 (each k (λ j. stands (mapOf LocationRecord s at) (firstEdition .bound + j))) 0
+boundsCode k s at = ask 7 (each k (λ j. stands (mapOf LocationRecord s at) (boundBit + j))) 0
 
 -- 9. "(Edge) Are source and target below L?"
 unfoldable pub endsCode : ℕ → List ℕ → ℕ → ℕ
@@ -97,12 +97,12 @@ recordsCode k l e s =
     (orElse (firstOf e (λ i. edgeCode k l s (recordAt EdgeRecord s (locationAt s l) i)))
     (restCode k l e s))
 
--- 2. "Is the length 4 to 580?" 3. "Is the edition 1?" 4. "Are L, K, E in range?"
+-- 2. "Is the length 4 to 580?", which "now allows 656 bytes". 3. "Is the edition 1?", which "allows 1 and 2". 4. "Are L, K, E in range?"
 unfoldable pub checkOf : List ℕ → ℕ
 checkOf s =
-    ask 2 (isWithin (length s) 4 580)
-    (ask 3 (eqb (byteAt s 0) 1)
-    (ask 4 (isWithin (locationsIn s) 1 12 && (isWithin (clocksIn s) 1 (firstEdition .clocks) && isWithin (edgesIn s) 0 32))
+    ask 2 (isWithin (length s) 4 656)
+    (ask 3 (isWithin (byteAt s 0) 1 2)
+    (ask 4 (isWithin (locationsIn s) 1 12 && (isWithin (clocksIn s) 1 (editionOf s .clocks) && isWithin (edgesIn s) 0 32))
     (recordsCode (clocksIn s) (locationsIn s) (edgesIn s) s)))
 
 -- the numbers that the check can answer

@@ -6,7 +6,7 @@ use Prim.Native.Nat.{ℕ, zero, suc, _+_}
 use lib.Dec.{ltb}
 use Rattle.sheet.specs.Bytes.{byteAt, wordAt}
 use Rattle.sheet.specs.Maps.{stands, placeOf}
-use Rattle.sheet.specs.Fields.{firstEdition}
+use Rattle.sheet.specs.Fields.{Edition, editionAt, boundBit}
 use Rattle.sheet.specs.declared.fields.Kind.{Kind}
 use Rattle.sheet.specs.declared.fields.Kind.the-variants.{LocationRecord, EdgeRecord}
 
@@ -46,6 +46,10 @@ recordAt y s from zero = from
 recordAt y s from (suc i) = recordAt y s from i + recordLength y s (recordAt y s from i)
 
 -- "Four bytes: edition (1), locations L (1 to 12), clocks K (1 to 3), edges E (0 to 32). Then L location records, then E edge records."
+-- "Edition 2 allows K up to 4"
+abbrev pub editionOf : List ℕ → Edition
+editionOf s = editionAt (byteAt s 0)
+
 abbrev pub locationsIn : List ℕ → ℕ
 locationsIn s = byteAt s 1
 
@@ -63,4 +67,4 @@ edgeAt s e = recordAt EdgeRecord s (locationAt s (locationsIn s)) e
 
 -- the upper bound of clock j in the location record at `at`; question 7 sees that it stands
 abbrev pub boundAt : List ℕ → ℕ → ℕ → ℕ
-boundAt s at j = Option·getD (fieldAt LocationRecord s at (firstEdition .bound + j)) 0
+boundAt s at j = Option·getD (fieldAt LocationRecord s at (boundBit + j)) 0

@@ -15,7 +15,7 @@ fn blank_location() -> Location
     Location {
         cost: 0,
         reward: 0,
-        upper: [0, 0, 0],
+        upper: [0, 0, 0, 0],
     }
 }
 
@@ -28,20 +28,22 @@ fn blank_edge() -> Edge
         cost: 0,
         reward: 0,
         reset: 0,
-        lower: [0, 0, 0],
-        upper: [0, 0, 0],
+        lower: [0, 0, 0, 0],
+        upper: [0, 0, 0, 0],
     }
 }
 
-// One byte for each clock from bit b on.
-fn clock_bytes(s: &[u8], kind: Kind, at: usize, b: u32, absent: u8) -> [u8; 3]
+// One byte for each clock: of those that the edition has the field, from bit b on, and of the others what stands for an absent one.
+fn clock_bytes(s: &[u8], kind: Kind, at: usize, b: u32, absent: u8) -> [u8; 4]
     requires { ⌜ (at < 2048) × ((2 ≤ b) × (b < 12)) ⌝ }
     ensures { λ r. ⌜ r ≡ clockBytes kind (now (s .entry)) at b absent ⌝ }
 {
-    let first = crate::records::byte_field(s, kind, at, b, absent);
-    let second = crate::records::byte_field(s, kind, at, b + 1, absent);
-    let third = crate::records::byte_field(s, kind, at, b + 2, absent);
-    [first, second, third]
+    let most = crate::most_clocks(crate::bytes::byte(s, 0)) as usize;
+    let mut all = [absent; 4];
+    for j in 0..most {
+        all[j] = crate::records::byte_field(s, kind, at, b + j as u32, absent);
+    }
+    all
 }
 
 fn read_location(s: &[u8], at: usize) -> Location
@@ -68,7 +70,8 @@ fn read_edge(s: &[u8], at: usize) -> Edge
     let reward = crate::records::price(s, Kind::EdgeRecord, at, 1);
     let reset = crate::records::byte_field(s, Kind::EdgeRecord, at, 2, 0);
     let lower = clock_bytes(s, Kind::EdgeRecord, at, 3, 0);
-    let upper = clock_bytes(s, Kind::EdgeRecord, at, 6, 255);
+    let most = crate::most_clocks(crate::bytes::byte(s, 0)) as u32;
+    let upper = clock_bytes(s, Kind::EdgeRecord, at, 3 + most, 255);
     Edge {
         source,
         target,
@@ -128,6 +131,7 @@ pub(crate) fn refused(refusal: u8) -> Sheet
     let edge = [blank_edge(); 32];
     Sheet {
         refusal,
+        edition: 0,
         locations: 0,
         clocks: 0,
         edges: 0,
@@ -141,6 +145,7 @@ pub(crate) fn decoded(s: &[u8]) -> Sheet
     requires { ⌜ checkOf (now s) ≡ 0 ⌝ }
     ensures { λ r. ⌜ r ≡ decodedSheet (now (s .entry)) ⌝ }
 {
+    let edition = crate::bytes::byte(s, 0);
     let locations = crate::bytes::byte(s, 1);
     let clocks = crate::bytes::byte(s, 2);
     let edges = crate::bytes::byte(s, 3);
@@ -149,6 +154,7 @@ pub(crate) fn decoded(s: &[u8]) -> Sheet
     let edge = read_edges(s, from, edges as usize);
     Sheet {
         refusal: 0,
+        edition,
         locations,
         clocks,
         edges,

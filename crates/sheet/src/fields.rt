@@ -1,7 +1,8 @@
 // What the bits of a record's map stand for, and the values that may stand there.
 ghost use mathlib.Core.Path.{_≡_};
 ghost use Prim.Native.Nat.{_≤_};
-ghost use Rattle.sheet.specs.Fields.{fieldOf, firstEdition, permittedField, inRange, costInRange, isWithin};
+ghost use Rattle.sheet.specs.declared.fields.Kind.the-variants.{LocationRecord, EdgeRecord};
+ghost use Rattle.sheet.specs.Fields.{editionAt, fieldOf, permittedField, inRange, costInRange, isWithin};
 
 // The two kinds of record.
 pub enum Kind {
@@ -19,25 +20,51 @@ pub enum Field {
     Unused,
 }
 
+// The field that bit b of a location's map stands for.
+fn location_field(edition: u8, b: u32) -> Field
+    ensures { λ r. ⌜ r ≡ fieldOf (editionAt edition) LocationRecord b ⌝ }
+{
+    let most = crate::most_clocks(edition) as u32;
+    match b {
+        0 => Field::Cost,
+        1 => Field::Reward,
+        _ => {
+            if b < 2 + most {
+                return Field::Upper(b - 2);
+            }
+            Field::Unused
+        }
+    }
+}
+
+// The field that bit b of an edge's map stands for.
+fn edge_field(edition: u8, b: u32) -> Field
+    ensures { λ r. ⌜ r ≡ fieldOf (editionAt edition) EdgeRecord b ⌝ }
+{
+    let most = crate::most_clocks(edition) as u32;
+    match b {
+        0 => Field::Cost,
+        1 => Field::Reward,
+        2 => Field::Reset,
+        _ => {
+            if b < 3 + most {
+                return Field::Lower(b - 3);
+            }
+            if b < 3 + most + most {
+                return Field::Upper(b - (3 + most));
+            }
+            Field::Unused
+        }
+    }
+}
+
 // The field that bit b stands for.
-pub(crate) fn field_of(kind: Kind, b: u32) -> Field
-    ensures { λ r. ⌜ r ≡ fieldOf firstEdition kind b ⌝ }
+pub(crate) fn field_of(edition: u8, kind: Kind, b: u32) -> Field
+    ensures { λ r. ⌜ r ≡ fieldOf (editionAt edition) kind b ⌝ }
 {
     match kind {
-        Kind::LocationRecord => match b {
-            0 => Field::Cost,
-            1 => Field::Reward,
-            2..=4 => Field::Upper(b - 2),
-            _ => Field::Unused,
-        },
-        Kind::EdgeRecord => match b {
-            0 => Field::Cost,
-            1 => Field::Reward,
-            2 => Field::Reset,
-            3..=5 => Field::Lower(b - 3),
-            6..=8 => Field::Upper(b - 6),
-            _ => Field::Unused,
-        },
+        Kind::LocationRecord => location_field(edition, b),
+        Kind::EdgeRecord => edge_field(edition, b),
     }
 }
 
@@ -80,7 +107,7 @@ fn cost_in_range(z: i16) -> bool
 
 // Question 8: whether a field may have the value v.
 pub(crate) fn in_range(field: Field, clocks: u32, v: u16) -> bool
-    requires { ⌜ clocks ≤ 3 ⌝ }
+    requires { ⌜ clocks ≤ 4 ⌝ }
     ensures { λ r. ⌜ r ≡ inRange clocks field v ⌝ }
 {
     match field {

@@ -1,5 +1,6 @@
 // The sheet format: whether a byte string is a sheet, and what it holds.
 ghost use mathlib.Core.Path.{_≡_};
+ghost use Rattle.sheet.specs.Fields.{editionAt};
 ghost use Rattle.sheet.specs.Questions.{checkOf};
 ghost use Rattle.sheet.specs.Decoded.{readOf};
 
@@ -11,32 +12,41 @@ mod keys;
 mod questions;
 mod records;
 
-// What a location record holds; absent prices are 0.
+// What a location record holds; absent prices are 0, and so are the bounds of clocks that the sheet does not have.
 pub struct Location {
     pub cost: i16,
     pub reward: u16,
-    pub upper: [u8; 3],
+    pub upper: [u8; 4],
 }
 
-// What an edge record holds; an absent upper guard is 255, which no byte of a sheet reaches.
+// What an edge record holds; an absent upper guard is 255, which no byte of a sheet reaches. The guards stand first, so that each of the two lists
+// lies within eight bytes, as records are copied.
 pub struct Edge {
-    pub source: u8,
-    pub target: u8,
+    pub lower: [u8; 4],
+    pub upper: [u8; 4],
     pub cost: i16,
     pub reward: u16,
+    pub source: u8,
+    pub target: u8,
     pub reset: u8,
-    pub lower: [u8; 3],
-    pub upper: [u8; 3],
 }
 
-// A decoded sheet: the refusal, and where that is 0 the counts and the records, blank ones after them.
+// A decoded sheet: the refusal, and where that is 0 the edition, the counts and the records, blank ones after them.
 pub struct Sheet {
     pub refusal: u8,
+    pub edition: u8,
     pub locations: u8,
     pub clocks: u8,
     pub edges: u8,
     pub location: [Location; 12],
     pub edge: [Edge; 32],
+}
+
+// How many clocks a sheet of an edition has at most.
+pub fn most_clocks(edition: u8) -> u8
+    ensures { λ r. ⌜ r ≡ editionAt edition .clocks ⌝ }
+{
+    if edition == 1 { 3 } else { 4 }
 }
 
 // 0, or the number of the first of questions 2 to 10, 17 and 11 that is answered no.

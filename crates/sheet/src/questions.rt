@@ -1,18 +1,19 @@
 // The questions put to a sheet, in their order: each function answers the number of the first that is answered no, or 0.
 ghost use mathlib.Core.Path.{_≡_};
 ghost use Prim.Native.Nat.{_≤_, _<_};
+ghost use Rattle.sheet.specs.Fields.{editionAt};
 ghost use Rattle.sheet.specs.Questions.{bitGood, mapCode, boundsCode, fieldsCode, endsCode, locationCode, edgeCode, startCode, recordsCode, checkOf};
 use crate::fields::Kind;
 
 // Whether bit b of a map is clear or permitted.
-fn bit_good(map: u32, kind: Kind, clocks: u32, b: u32) -> bool
+fn bit_good(map: u32, edition: u8, kind: Kind, clocks: u32, b: u32) -> bool
     requires { ⌜ b < 16 ⌝ }
-    ensures { λ r. ⌜ r ≡ bitGood kind clocks map b ⌝ }
+    ensures { λ r. ⌜ r ≡ bitGood (editionAt edition) kind clocks map b ⌝ }
 {
     if crate::bytes::bit(map, b) == 0 {
         return true;
     }
-    crate::fields::permitted(crate::fields::field_of(kind, b), clocks)
+    crate::fields::permitted(crate::fields::field_of(edition, kind, b), clocks)
 }
 
 // Questions 5, 6 and 5 again of the record at a place: the map, its bits, and the bytes that it calls for.
@@ -24,9 +25,10 @@ fn map_code(s: &[u8], kind: Kind, clocks: u32, at: usize) -> u8
         if s.len() < at + crate::records::map_bytes(kind) {
             break 'map 5;
         }
+        let edition = crate::bytes::byte(s, 0);
         let map = crate::records::map_of(s, kind, at);
         for b in 0..16u32 {
-            if !bit_good(map, kind, clocks, b) {
+            if !bit_good(map, edition, kind, clocks, b) {
                 break 'map 6;
             }
         }
@@ -40,7 +42,7 @@ fn map_code(s: &[u8], kind: Kind, clocks: u32, at: usize) -> u8
 
 // Question 7 of a location: a bound stands for each clock.
 fn bounds_code(s: &[u8], clocks: u32, at: usize) -> u8
-    requires { ⌜ (at < 2048) × (clocks ≤ 3) ⌝ }
+    requires { ⌜ (at < 2048) × (clocks ≤ 4) ⌝ }
     ensures { λ r. ⌜ r ≡ boundsCode clocks (now (s .entry)) at ⌝ }
 {
     let map = crate::records::map_of(s, Kind::LocationRecord, at);
@@ -57,7 +59,7 @@ fn bounds_code(s: &[u8], clocks: u32, at: usize) -> u8
 
 // Question 8 of a record: each field is in range.
 fn fields_code(s: &[u8], kind: Kind, clocks: u32, at: usize) -> u8
-    requires { ⌜ (at < 2048) × (clocks ≤ 3) ⌝ }
+    requires { ⌜ (at < 2048) × (clocks ≤ 4) ⌝ }
     ensures { λ r. ⌜ r ≡ fieldsCode kind clocks (now (s .entry)) at ⌝ }
 {
     let code = 'fields: loop {
@@ -73,7 +75,7 @@ fn fields_code(s: &[u8], kind: Kind, clocks: u32, at: usize) -> u8
 
 // Questions 5 to 8 of the location record at a place.
 fn location_code(s: &[u8], clocks: u32, at: usize) -> u8
-    requires { ⌜ (at < 2048) × (clocks ≤ 3) ⌝ }
+    requires { ⌜ (at < 2048) × (clocks ≤ 4) ⌝ }
     ensures { λ r. ⌜ r ≡ locationCode clocks (now (s .entry)) at ⌝ }
 {
     let map = map_code(s, Kind::LocationRecord, clocks, at);
@@ -103,7 +105,7 @@ fn ends_code(s: &[u8], locations: usize, at: usize) -> u8
 
 // Questions 5, 6, 8 and 9 of the edge record at a place.
 fn edge_code(s: &[u8], clocks: u32, locations: usize, at: usize) -> u8
-    requires { ⌜ (at < 2048) × (clocks ≤ 3) ⌝ }
+    requires { ⌜ (at < 2048) × (clocks ≤ 4) ⌝ }
     ensures { λ r. ⌜ r ≡ edgeCode clocks locations (now (s .entry)) at ⌝ }
 {
     let map = map_code(s, Kind::EdgeRecord, clocks, at);
@@ -119,7 +121,7 @@ fn edge_code(s: &[u8], clocks: u32, locations: usize, at: usize) -> u8
 
 // Question 11: location 0's bounds admit all clocks at 0. An upper byte 0 is a bound below 0.
 fn start_code(s: &[u8], clocks: u32) -> u8
-    requires { ⌜ clocks ≤ 3 ⌝ }
+    requires { ⌜ clocks ≤ 4 ⌝ }
     ensures { λ r. ⌜ r ≡ startCode clocks (now (s .entry)) ⌝ }
 {
     let code = 'start: loop {
@@ -135,7 +137,7 @@ fn start_code(s: &[u8], clocks: u32) -> u8
 
 // Questions 5 to 10, 17 and 11: each record in turn, then what follows the last.
 fn records_code(s: &[u8], clocks: u32, locations: usize, edges: usize) -> u8
-    requires { ⌜ (clocks ≤ 3) × ((locations ≤ 12) × (edges ≤ 32)) ⌝ }
+    requires { ⌜ (clocks ≤ 4) × ((locations ≤ 12) × (edges ≤ 32)) ⌝ }
     ensures { λ r. ⌜ r ≡ recordsCode clocks locations edges (now (s .entry)) ⌝ }
 {
     let mut at: usize = 4;
@@ -171,10 +173,11 @@ fn records_code(s: &[u8], clocks: u32, locations: usize, edges: usize) -> u8
 pub(crate) fn check(s: &[u8]) -> u8
     ensures { λ r. ⌜ r ≡ checkOf (now (s .entry)) ⌝ }
 {
-    if !crate::fields::is_within(s.len(), 4, 580) {
+    if !crate::fields::is_within(s.len(), 4, 656) {
         return 2;
     }
-    if crate::bytes::byte(s, 0) != 1 {
+    let edition = crate::bytes::byte(s, 0);
+    if !crate::fields::is_within(edition as usize, 1, 2) {
         return 3;
     }
     let locations = crate::bytes::number(s, 1);
@@ -183,7 +186,7 @@ pub(crate) fn check(s: &[u8]) -> u8
     if !crate::fields::is_within(locations, 1, 12) {
         return 4;
     }
-    if !crate::fields::is_within(clocks, 1, 3) {
+    if !crate::fields::is_within(clocks, 1, crate::most_clocks(edition) as usize) {
         return 4;
     }
     if !crate::fields::is_within(edges, 0, 32) {

@@ -67,14 +67,15 @@ fn value_at(s: &[u8], p: usize, b: u32) -> u16
 
 // Whether the field of bit b is absent or in range.
 pub(crate) fn field_good(s: &[u8], kind: Kind, at: usize, clocks: u32, b: u32) -> bool
-    requires { ⌜ (at < 2048) × ((clocks ≤ 3) × (b < 16)) ⌝ }
+    requires { ⌜ (at < 2048) × ((clocks ≤ 4) × (b < 16)) ⌝ }
     ensures { λ r. ⌜ r ≡ fieldGood kind clocks (now (s .entry)) at b ⌝ }
 {
     if crate::bytes::bit(map_of(s, kind, at), b) == 0 {
         return true;
     }
     let v = value_at(s, field_place(s, kind, at, b), b);
-    crate::fields::in_range(crate::fields::field_of(kind, b), clocks, v)
+    let edition = crate::bytes::byte(s, 0);
+    crate::fields::in_range(crate::fields::field_of(edition, kind, b), clocks, v)
 }
 
 // The price of bit b, 0 where it is absent.

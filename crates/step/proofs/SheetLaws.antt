@@ -15,13 +15,13 @@ use Rattle.sheet.specs.Decoded.{blankEdge, readOf}
 use Rattle.sheet.specs.declared.Edge.{Edge}
 use Rattle.sheet.specs.declared.Location.{Location}
 use Rattle.sheet.specs.declared.Sheet.{Sheet}
-use Rattle.nodes.specs.Numbers.{firstLayout, bitsOf, nodeOf, isNumber, stepBy}
-use Rattle.nodes.specs.Meaning.{meaning}
-use Rattle.nodes.specs.Decoded.{locationIn, edgeIn, decodedMeaning, alone}
+use Rattle.nodes.specs.Numbers.{Layout, bitsOf, nodeOf, isNumber, stepBy}
+use Rattle.nodes.specs.Meaning.{meaning, layoutOf}
+use Rattle.nodes.specs.Decoded.{layoutIn, locationIn, edgeIn, decodedMeaning, alone}
 use Rattle.nodes.proofs.CheckedLaws.{sound, room}
 use Rattle.nodes.proofs.NumberLaws.{node-there}
 use Rattle.nodes.proofs.AgreeLaws.{Agree, numbers-agree, number-steps-agree}
-use Rattle.nodes.proofs.DecodedLaws.{read-refusal, read-agrees, edge-alone-number, delay-alone-number, number-alone}
+use Rattle.nodes.proofs.DecodedLaws.{read-layout, read-refusal, read-agrees, edge-alone-number, delay-alone-number, number-alone}
 use Rattle.region.specs.Answers.{refusedStep, answered}
 use Rattle.region.specs.declared.Stepped.{Stepped}
 use Rattle.step.specs.Step.{answerAt, stepOf, stepIn}
@@ -32,40 +32,46 @@ no-time none e h = refl
 no-time (some v) e h = ap (λ (n : ℕ). record { refusal = 0; number = v .to; cost = v .cost; reward = v .reward; units = n }) (sym (edge-units e h))
 
 module _ (s : Sheet) (x : ℕ) where
-  -- question 15
-  pub no-location : s .locations ≤ bitsOf x 4 20 → false ≡ isNumber firstLayout (decodedMeaning s) x
-  unfolding nodeOf
-  no-location h = sym (number-alone firstLayout s x blankEdge
-      ∙ ap (λ (b : Bool). b && isNumber firstLayout (alone (s .clocks) blankEdge (locationIn s (bitsOf x 4 20))) x) (le-ltb _ _ h))
+  abbrev y : Layout
+  y = layoutIn s
 
-  pub by-location : bitsOf x 4 20 < s .locations → (l : Location) → l ≡ locationIn s (bitsOf x 4 20)
-      → isNumber firstLayout (alone (s .clocks) blankEdge l) x ≡ isNumber firstLayout (decodedMeaning s) x
+  abbrev location : ℕ
+  location = bitsOf x 4 (y .location)
+
+  -- question 15
+  pub no-location : s .locations ≤ location → false ≡ isNumber y (decodedMeaning s) x
   unfolding nodeOf
-  by-location h l q = ap (λ (l : Location). isNumber firstLayout (alone (s .clocks) blankEdge l) x) q
-      ∙ sym (number-alone firstLayout s x blankEdge
-      ∙ ap (λ (b : Bool). b && isNumber firstLayout (alone (s .clocks) blankEdge (locationIn s (bitsOf x 4 20))) x) (lt-ltb _ _ h))
+  no-location h = sym (number-alone y s x blankEdge
+      ∙ ap (λ (b : Bool). b && isNumber y (alone (s .edition) (s .clocks) blankEdge (locationIn s location)) x) (le-ltb _ _ h))
+
+  pub by-location : location < s .locations → (l : Location) → l ≡ locationIn s location
+      → isNumber y (alone (s .edition) (s .clocks) blankEdge l) x ≡ isNumber y (decodedMeaning s) x
+  unfolding nodeOf
+  by-location h l q = ap (λ (l : Location). isNumber y (alone (s .edition) (s .clocks) blankEdge l) x) q
+      ∙ sym (number-alone y s x blankEdge
+      ∙ ap (λ (b : Bool). b && isNumber y (alone (s .edition) (s .clocks) blankEdge (locationIn s location)) x) (lt-ltb _ _ h))
 
   -- an edge that the sheet does not have
-  pub no-edge : (e : ℕ) → e ≤ 31 → s .edges ≤ e → refusedStep 16 ≡ answered e (stepBy firstLayout (decodedMeaning s) x e)
+  pub no-edge : (e : ℕ) → e ≤ 31 → s .edges ≤ e → refusedStep 16 ≡ answered e (stepBy y (decodedMeaning s) x e)
   unfolding stepBy step edgeStep decodedMeaning
   no-edge e h l = sym (simp (le-leb e 31 h, le-ltb e (s .edges) l))
 
-  pub no-code : (code : ℕ) → 31 < code → (code ≡ 32 → ⊥) → (code ≡ 33 → ⊥) → refusedStep 16 ≡ answered code (stepBy firstLayout (decodedMeaning s) x code)
+  pub no-code : (code : ℕ) → 31 < code → (code ≡ 32 → ⊥) → (code ≡ 33 → ⊥) → refusedStep 16 ≡ answered code (stepBy y (decodedMeaning s) x code)
   unfolding stepBy step
   no-code code h m n = sym (simp (lt-leb code 31 h, ne-eqb code 32 m, ne-eqb code 33 n))
 
   -- an edge that it has, and a delay, by the records at hand
   pub edge-there : (e : ℕ) → e ≤ 31 → e < s .edges → (w : Edge) → w ≡ edgeIn s e → (l : Location) → l ≡ locationIn s (w .target)
-      → answered 0 (stepBy firstLayout (alone (s .clocks) w l) x 0) ≡ answered e (stepBy firstLayout (decodedMeaning s) x e)
+      → answered 0 (stepBy y (alone (s .edition) (s .clocks) w l) x 0) ≡ answered e (stepBy y (decodedMeaning s) x e)
   edge-there e h k w p l q =
-      ap₂ (λ (w : Edge) (l : Location). answered 0 (stepBy firstLayout (alone (s .clocks) w l) x 0)) p (q ∙ ap (λ (w : Edge). locationIn s (w .target)) p)
-      ∙ sym (ap (answered 0) (edge-alone-number firstLayout s x e h k)) ∙ no-time (stepBy firstLayout (decodedMeaning s) x e) e h
+      ap₂ (λ (w : Edge) (l : Location). answered 0 (stepBy y (alone (s .edition) (s .clocks) w l) x 0)) p (q ∙ ap (λ (w : Edge). locationIn s (w .target)) p)
+      ∙ sym (ap (answered 0) (edge-alone-number y s x e h k)) ∙ no-time (stepBy y (decodedMeaning s) x e) e h
 
-  pub delay-there : (code c : ℕ) → code ≡ c → 31 < c → (l : Location) → l ≡ locationIn s (bitsOf x 4 20)
-      → answered c (stepBy firstLayout (alone (s .clocks) blankEdge l) x c) ≡ answered code (stepBy firstLayout (decodedMeaning s) x code)
+  pub delay-there : (code c : ℕ) → code ≡ c → 31 < c → (l : Location) → l ≡ locationIn s location
+      → answered c (stepBy y (alone (s .edition) (s .clocks) blankEdge l) x c) ≡ answered code (stepBy y (decodedMeaning s) x code)
   unfolding nodeOf
-  delay-there code c p h l q = ap (λ (l : Location). answered c (stepBy firstLayout (alone (s .clocks) blankEdge l) x c)) q
-      ∙ sym (ap (answered c) (delay-alone-number firstLayout s x blankEdge c h)) ∙ ap (λ (m : ℕ). answered m (stepBy firstLayout (decodedMeaning s) x m)) (sym p)
+  delay-there code c p h l q = ap (λ (l : Location). answered c (stepBy y (alone (s .edition) (s .clocks) blankEdge l) x c)) q
+      ∙ sym (ap (answered c) (delay-alone-number y s x blankEdge c h)) ∙ ap (λ (m : ℕ). answered m (stepBy y (decodedMeaning s) x m)) (sym p)
 
   -- ---- a whole step
 
@@ -74,37 +80,38 @@ module _ (s : Sheet) (x : ℕ) where
     unfolding stepIn
     step-refused n = sym (simp (ne-eqb _ _ n))
 
-    pub step-nowhere : s .refusal ≡ 0 → isNumber firstLayout (decodedMeaning s) x ≡ false → refusedStep 15 ≡ stepIn s x code
+    pub step-nowhere : s .refusal ≡ 0 → isNumber y (decodedMeaning s) x ≡ false → refusedStep 15 ≡ stepIn s x code
     unfolding stepIn answerAt
     step-nowhere z h = sym (simp (eq-eqb _ _ z, h))
 
-    pub step-answered : s .refusal ≡ 0 → isNumber firstLayout (decodedMeaning s) x ≡ true
-        → answered code (stepBy firstLayout (decodedMeaning s) x code) ≡ stepIn s x code
+    pub step-answered : s .refusal ≡ 0 → isNumber y (decodedMeaning s) x ≡ true
+        → answered code (stepBy y (decodedMeaning s) x code) ≡ stepIn s x code
     unfolding stepIn answerAt
     step-answered z h = sym (simp (eq-eqb _ _ z, h))
 
 -- ---- what was read steps as its bytes do
 
 answers-agree : (bytes : List ℕ) → checkOf bytes ≡ 0 → (x code : ℕ)
-    → answerAt firstLayout (decodedMeaning (readOf bytes)) x code ≡ answerAt firstLayout (meaning bytes) x code
+    → answerAt (layoutIn (readOf bytes)) (decodedMeaning (readOf bytes)) x code ≡ answerAt (layoutOf bytes) (meaning bytes) x code
 unfolding answerAt
-answers-agree bytes ok x code = sym (by-bool (isNumber firstLayout (meaning bytes) x)
+answers-agree bytes ok x code = ap (λ (y : Layout). answerAt y (decodedMeaning (readOf bytes)) x code) (read-layout bytes ok)
+    ∙ sym (by-bool (isNumber (layoutOf bytes) (meaning bytes) x)
     (λ t. ap₂ (λ (b : Bool) (v : Stepped). cond b v (refusedStep 15)) same
-    (ap (answered code) (number-steps-agree firstLayout (meaning bytes) (decodedMeaning (readOf bytes)) agree (sound bytes ok) x code
-    (node-there firstLayout (meaning bytes) (room bytes ok) x t))))
-    (λ f. ap (λ (b : Bool). cond b (answered code (stepBy firstLayout (meaning bytes) x code)) (refusedStep 15)) f
-    ∙ sym (ap (λ (b : Bool). cond b (answered code (stepBy firstLayout (decodedMeaning (readOf bytes)) x code)) (refusedStep 15)) (sym same ∙ f))))
+    (ap (answered code) (number-steps-agree (layoutOf bytes) (meaning bytes) (decodedMeaning (readOf bytes)) agree (sound bytes ok) x code
+    (node-there (layoutOf bytes) (meaning bytes) (room bytes ok) x t))))
+    (λ f. ap (λ (b : Bool). cond b (answered code (stepBy (layoutOf bytes) (meaning bytes) x code)) (refusedStep 15)) f
+    ∙ sym (ap (λ (b : Bool). cond b (answered code (stepBy (layoutOf bytes) (decodedMeaning (readOf bytes)) x code)) (refusedStep 15)) (sym same ∙ f))))
   where
     agree : Agree (meaning bytes) (decodedMeaning (readOf bytes))
     agree = read-agrees bytes ok
 
-    same : isNumber firstLayout (meaning bytes) x ≡ isNumber firstLayout (decodedMeaning (readOf bytes)) x
-    same = numbers-agree firstLayout (meaning bytes) (decodedMeaning (readOf bytes)) agree x
+    same : isNumber (layoutOf bytes) (meaning bytes) x ≡ isNumber (layoutOf bytes) (decodedMeaning (readOf bytes)) x
+    same = numbers-agree (layoutOf bytes) (meaning bytes) (decodedMeaning (readOf bytes)) agree x
 
 pub read-steps : (bytes : List ℕ) (x code : ℕ) → stepIn (readOf bytes) x code ≡ stepOf bytes x code
 unfolding stepIn stepOf
 read-steps bytes x code = by-bool (eqb (checkOf bytes) 0)
     (λ t. ap₂ (λ (r : ℕ) (v : Stepped). cond (eqb r 0) v (refusedStep r)) (read-refusal bytes) (answers-agree bytes (eqb-true (checkOf bytes) 0 t) x code))
-    (λ f. ap (λ (r : ℕ). cond (eqb r 0) (answerAt firstLayout (decodedMeaning (readOf bytes)) x code) (refusedStep r)) (read-refusal bytes)
-    ∙ ap (λ (b : Bool). cond b (answerAt firstLayout (decodedMeaning (readOf bytes)) x code) (refusedStep (checkOf bytes))) f
-    ∙ sym (ap (λ (b : Bool). cond b (answerAt firstLayout (meaning bytes) x code) (refusedStep (checkOf bytes))) f))
+    (λ f. ap (λ (r : ℕ). cond (eqb r 0) (answerAt (layoutIn (readOf bytes)) (decodedMeaning (readOf bytes)) x code) (refusedStep r)) (read-refusal bytes)
+    ∙ ap (λ (b : Bool). cond b (answerAt (layoutIn (readOf bytes)) (decodedMeaning (readOf bytes)) x code) (refusedStep (checkOf bytes))) f
+    ∙ sym (ap (λ (b : Bool). cond b (answerAt (layoutOf bytes) (meaning bytes) x code) (refusedStep (checkOf bytes))) f))

@@ -9,9 +9,9 @@ use Rattle.automaton.specs.Automaton.{Automaton}
 use Rattle.automaton.specs.Priced.{Priced}
 use Rattle.sheet.specs.Questions.{checkOf}
 use Rattle.sheet.specs.declared.Sheet.{Sheet}
-use Rattle.nodes.specs.Numbers.{Layout, firstLayout, isNumber, stepBy}
+use Rattle.nodes.specs.Numbers.{Layout, isNumber, stepBy}
 use Rattle.nodes.specs.Meaning.{meaning, layoutOf}
-use Rattle.nodes.specs.Decoded.{decodedMeaning}
+use Rattle.nodes.specs.Decoded.{decodedMeaning, layoutIn}
 use Rattle.region.specs.Answers.{refusedStep, answered}
 use Rattle.region.specs.declared.Stepped.{Stepped}
 
@@ -25,7 +25,7 @@ stepOf s x code = cond (eqb (checkOf s) 0) (answerAt (layoutOf s) (meaning s) x 
 
 -- the same of a decoded sheet
 unfoldable pub stepIn : Sheet → ℕ → ℕ → Stepped
-stepIn s x code = cond (eqb (s .refusal) 0) (answerAt firstLayout (decodedMeaning s) x code) (refusedStep (s .refusal))
+stepIn s x code = cond (eqb (s .refusal) 0) (answerAt (layoutIn s) (decodedMeaning s) x code) (refusedStep (s .refusal))
 
 -- a single step as walks are made of: where it leads, or nothing where it is refused
 abbrev pub asked : List ℕ → ℕ → ℕ → Option (Priced ℕ)

@@ -2,8 +2,8 @@
 ghost use mathlib.Core.Path.{_≡_};
 ghost use Prim.Native.Nat.{_≤_};
 ghost use lib.ListN.{getD};
-ghost use Rattle.nodes.specs.Numbers.{firstLayout, bitsOf, isNumber, stepBy};
-ghost use Rattle.nodes.specs.Decoded.{decodedMeaning, locationIn};
+ghost use Rattle.nodes.specs.Numbers.{bitsOf, isNumber, stepBy};
+ghost use Rattle.nodes.specs.Decoded.{decodedMeaning, layoutIn, locationIn};
 ghost use Rattle.sheet.specs.Decoded.{blankEdge, blankLocation};
 ghost use Rattle.region.specs.Answers.{refusedStep, answered};
 ghost use Rattle.step.specs.Step.{stepOf, stepIn};
@@ -35,7 +35,7 @@ fn location_of(all: [Location; 12], l: u8) -> Location
     Location {
         cost: 0,
         reward: 0,
-        upper: [0, 0, 0],
+        upper: [0, 0, 0, 0],
     }
 }
 
@@ -48,27 +48,32 @@ fn edge_of(all: [Edge; 32], e: usize) -> Edge
 }
 
 // The record of a node's location.
-fn location_at(sheet: Sheet, number: u32) -> Location
-    ensures { λ r. ⌜ r ≡ locationIn sheet (bitsOf number 4 20) ⌝ }
+fn location_at(sheet: Sheet, number: u64) -> Location
+    ensures { λ r. ⌜ r ≡ locationIn sheet (bitsOf number 4 (layoutIn sheet .location)) ⌝ }
 {
     let locations = sheet.location;
-    location_of(locations, region::location_in(number))
+    location_of(locations, region::location_in(number, sheet.edition))
 }
 
 // Question 15.
-fn is_number(sheet: Sheet, number: u32) -> bool
-    ensures { λ r. ⌜ r ≡ isNumber firstLayout (decodedMeaning sheet) number ⌝ }
+fn is_number(sheet: Sheet, number: u64) -> bool
+    ensures { λ r. ⌜ r ≡ isNumber (layoutIn sheet) (decodedMeaning sheet) number ⌝ }
 {
-    if sheet.locations <= region::location_in(number) {
+    if sheet.locations <= region::location_in(number, sheet.edition) {
         return false;
     }
-    region::corners::is_number(number, sheet.clocks, location_at(sheet, number))
+    region::corners::is_number(
+        number,
+        sheet.edition,
+        sheet.clocks,
+        location_at(sheet, number),
+    )
 }
 
 // The edge of a code, where the sheet has one.
-fn edge_from(sheet: Sheet, number: u32, e: usize) -> Stepped
+fn edge_from(sheet: Sheet, number: u64, e: usize) -> Stepped
     requires { ⌜ e ≤ 31 ⌝ }
-    ensures { λ r. ⌜ r ≡ answered e (stepBy firstLayout (decodedMeaning sheet) number e) ⌝ }
+    ensures { λ r. ⌜ r ≡ answered e (stepBy (layoutIn sheet) (decodedMeaning sheet) number e) ⌝ }
 {
     if (sheet.edges as usize) <= e {
         return region::not_allowed();
@@ -77,23 +82,33 @@ fn edge_from(sheet: Sheet, number: u32, e: usize) -> Stepped
     let edge = edge_of(edges, e);
     let locations = sheet.location;
     let target = location_of(locations, edge.target);
-    region::edges::edge_step(number, sheet.clocks, edge, target)
+    region::edges::edge_step(number, sheet.edition, sheet.clocks, edge, target)
 }
 
 // Question 16.
-fn step_from(sheet: Sheet, number: u32, code: u16) -> Stepped
-    ensures { λ r. ⌜ r ≡ answered code (stepBy firstLayout (decodedMeaning sheet) number code) ⌝ }
+fn step_from(sheet: Sheet, number: u64, code: u16) -> Stepped
+    ensures { λ r. ⌜ r ≡ answered code (stepBy (layoutIn sheet) (decodedMeaning sheet) number code) ⌝ }
 {
     match code {
         0..=31 => edge_from(sheet, number, code as usize),
-        32 => region::delays::unit_step(number, sheet.clocks, location_at(sheet, number)),
-        33 => region::delays::move_step(number, sheet.clocks, location_at(sheet, number)),
+        32 => region::delays::unit_step(
+            number,
+            sheet.edition,
+            sheet.clocks,
+            location_at(sheet, number),
+        ),
+        33 => region::delays::move_step(
+            number,
+            sheet.edition,
+            sheet.clocks,
+            location_at(sheet, number),
+        ),
         _ => region::not_allowed(),
     }
 }
 
 // One step of a decoded sheet: its refusal, then questions 15 and 16.
-fn step_in(sheet: Sheet, number: u32, code: u16) -> Stepped
+fn step_in(sheet: Sheet, number: u64, code: u16) -> Stepped
     ensures { λ r. ⌜ r ≡ stepIn sheet number code ⌝ }
 {
     let refusal = sheet.refusal;
@@ -107,7 +122,7 @@ fn step_in(sheet: Sheet, number: u32, code: u16) -> Stepped
 }
 
 // One step: the questions of the check, then 15 and 16.
-pub fn step(sheet: &[u8], number: u32, code: u16) -> Stepped
+pub fn step(sheet: &[u8], number: u64, code: u16) -> Stepped
     ensures { λ r. ⌜ r ≡ stepOf (now (sheet .entry)) number code ⌝ }
 {
     step_in(sheet::read(sheet), number, code)

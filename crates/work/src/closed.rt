@@ -10,8 +10,8 @@ use sheet::Location;
 use sheet::Sheet;
 
 // Whether the bytes of so many clocks are all even, of parity 0, or all odd, of parity 1.
-fn all_of_parity(bytes: [u8; 3], clocks: usize, parity: u8) -> bool
-    requires { ⌜ clocks ≤ 3 ⌝ }
+fn all_of_parity(bytes: [u8; 4], clocks: usize, parity: u8) -> bool
+    requires { ⌜ clocks ≤ 4 ⌝ }
     ensures { λ r. ⌜ r ≡ allOfParity bytes clocks parity ⌝ }
 {
     let all: bool = 'bytes: loop {
@@ -27,7 +27,7 @@ fn all_of_parity(bytes: [u8; 3], clocks: usize, parity: u8) -> bool
 
 // Whether the bounds of so many locations are all odd.
 fn bounds_closed(locations: [Location; 12], count: usize, clocks: usize) -> bool
-    requires { ⌜ count ≤ 12 ⌝ ∗ ⌜ clocks ≤ 3 ⌝ }
+    requires { ⌜ count ≤ 12 ⌝ ∗ ⌜ clocks ≤ 4 ⌝ }
     ensures { λ r. ⌜ r ≡ boundsOdd locations count clocks ⌝ }
 {
     let all: bool = 'records: loop {
@@ -45,7 +45,7 @@ fn bounds_closed(locations: [Location; 12], count: usize, clocks: usize) -> bool
 
 // Whether the lower guards of so many edges are all even and the upper ones odd. An absent lower one is 0, an absent upper one 255.
 fn guards_closed(edges: [Edge; 32], count: usize, clocks: usize) -> bool
-    requires { ⌜ count ≤ 32 ⌝ ∗ ⌜ clocks ≤ 3 ⌝ }
+    requires { ⌜ count ≤ 32 ⌝ ∗ ⌜ clocks ≤ 4 ⌝ }
     ensures { λ r. ⌜ r ≡ guardsEvenOdd edges count clocks ⌝ }
 {
     let all: bool = 'records: loop {
@@ -66,7 +66,7 @@ fn guards_closed(edges: [Edge; 32], count: usize, clocks: usize) -> bool
 }
 
 pub(crate) fn is_closed(read: Sheet) -> bool
-    requires { ⌜ CountsInRange (read .locations) (read .clocks) (read .edges) ⌝ }
+    requires { ⌜ CountsInRange (read .edition) (read .locations) (read .clocks) (read .edges) ⌝ }
     ensures { λ r. ⌜ r ≡ isClosed (decodedMeaning read) ⌝ }
 {
     let clocks = read.clocks as usize;

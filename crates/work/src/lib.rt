@@ -34,7 +34,7 @@ fn plan_pairs(sheet: &[u8], read: Sheet, waits: &mut [u16], edges: &mut [u16]) -
     ensures { λ r. ⌜ ((o : ClearedFrom (lentPairs (now (waits .entry)) (now (edges .entry))))
         → Worked (now (sheet .entry)) (o .before) (lentPairs (now (waits .exit)) (now (edges .exit))) r) ⌝ }
 {
-    let mut nodes = [0u32; 2048];
+    let mut nodes = [0u64; 2048];
     let mut potentials = [0i64; 2048];
     let mut codes = [0u16; 2048];
     let plan = planner::plan(sheet, &mut nodes, &mut potentials, &mut codes);

@@ -1,4 +1,4 @@
-// Work plans of Bench, of changes to it and of sheets with two clocks or two locations: a line for each.
+// Work plans of Bench, of changes to it and of sheets with two clocks, four clocks or two locations: a line for each.
 // Bench's bytes: edition, L, K and E; the location's map, cost rate (two bytes) and bound; the edge's map (two bytes), source, target, cost and
 // reward (two bytes each), reset mask and lower byte.
 mod show;
@@ -31,6 +31,10 @@ fn accepted() {
         b"two clocks, both reset",
         b"\x01\x01\x02\x01\x0D\x01\x00\x05\x05\x0F\x00\x00\x00\x05\x00\x02\x00\x03\x02",
     );
+    case(
+        b"four clocks, all reset",
+        b"\x02\x01\x04\x01\x3D\x01\x00\x05\x05\x05\x05\x0F\x00\x00\x00\x05\x00\x02\x00\x0F\x02",
+    );
     // 1 unit in location 0, 2 in location 1, each left by an edge that resets the clock
     case(
         b"two locations in turn",
@@ -59,6 +63,14 @@ fn strict() {
     case(
         b"two clocks, bound 04 of clock 1",
         b"\x01\x01\x02\x01\x0D\x01\x00\x05\x04\x0F\x00\x00\x00\x05\x00\x02\x00\x03\x02",
+    );
+    case(
+        b"four clocks, bound 04 of clock 3",
+        b"\x02\x01\x04\x01\x3D\x01\x00\x05\x05\x05\x04\x0F\x00\x00\x00\x05\x00\x02\x00\x0F\x02",
+    );
+    case(
+        b"four clocks, lower byte 03 of clock 3",
+        b"\x02\x01\x04\x01\x3D\x01\x00\x05\x05\x05\x05\x4F\x00\x00\x00\x05\x00\x02\x00\x0F\x02\x03",
     );
     case(
         b"a second location with bound 04, which no edge enters",

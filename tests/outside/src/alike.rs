@@ -1,7 +1,8 @@
 //! How alike the edge records of a sheet are, counted, and what the random sheets promise of it.
 
+use crate::edition::Edition;
+use crate::fields::longest_edge;
 use crate::tally::Tally;
-use crate::twice::LONGEST_RECORD;
 use std::collections::BTreeSet;
 
 /// The places of the bytes that differ, of those that both records have.
@@ -30,7 +31,7 @@ pub fn pairs<'a>(records: &'a [&'a [u8]]) -> impl Iterator<Item = (&'a [u8], &'a
 fn likeness(a: &[u8], b: &[u8]) -> Vec<String> {
     let mut kinds = Vec::new();
     if let [place] = differing(a, b)[..] {
-        // The second byte of a map has one bit, of the last field.
+        // Of the second byte of a map the highest bit is that of the last field.
         if a.len() == b.len() || place == 1 {
             kinds.push(format!("byte {place:>2}"));
         }
@@ -75,11 +76,11 @@ pub fn count_but_for_17(tally: &mut Tally, refusal: u8) {
 /// Each kind and the least number of its cases.
 pub fn promised() -> Vec<(String, u64)> {
     let apart = (1..=31).map(|distance| (format!("an edge twice: {distance:>2} apart"), 12));
-    let bytes = (0..LONGEST_RECORD).map(|at| (format!("edges equal but for: byte {at:>2}"), 15));
-    let twice =
-        (4..=LONGEST_RECORD).map(|length| (format!("an edge twice: of {length:>2} bytes"), 5));
-    let nearly = (4..=LONGEST_RECORD)
-        .map(|length| (format!("edges equal but for: a byte of {length:>2}"), 10));
+    let longest = longest_edge(Edition::Second);
+    let bytes = (0..longest).map(|at| (format!("edges equal but for: byte {at:>2}"), 15));
+    let twice = (4..=longest).map(|length| (format!("an edge twice: of {length:>2} bytes"), 5));
+    let nearly =
+        (4..=longest).map(|length| (format!("edges equal but for: a byte of {length:>2}"), 10));
     let maps = [("the map", 20), ("both bytes of the map", 5)];
     let maps = maps.map(|(kind, least)| (format!("edges equal but for: {kind}"), least));
     // 17 is answered where question 11 finds the fault.

@@ -1,5 +1,6 @@
 //! Sheets with an exact number of reachable nodes, for both sides of the limit.
 
+use crate::edition::MOST_CLOCKS;
 use crate::explore::explore;
 use crate::generate::{cost, location, reward, room, sheet, Prices, Shape};
 use crate::random::Random;
@@ -38,7 +39,7 @@ fn pad(sheet: &mut Sheet, mut missing: usize, random: &mut Random, prices: Price
         missing -= nodes_on_the_diagonal(upper);
         let (target, mask) = (sheet.locations.len(), (1 << sheet.clocks) - 1);
         sheet.edges.push(Edge { target, mask, ..earning_edge(random, prices) });
-        let (cost, upper) = (cost(random, prices), [upper as u8; 3]);
+        let (cost, upper) = (cost(random, prices), [upper as u8; MOST_CLOCKS]);
         sheet.locations.push(Location { cost, reward: 0, upper });
     }
     true

@@ -3,8 +3,8 @@
 use crate::arguments::Arguments;
 use crate::expected::expect;
 use crate::hexadecimal;
-use crate::judge_plan::judge_plan;
-use crate::judge_step::{expected_step, Answer};
+use crate::judge_plan::{judge_plan, Answer};
+use crate::judge_step::{expected_step, StepAnswer};
 use crate::judge_work::judge_work;
 use crate::library::Planner;
 use crate::marked::step_numbers;
@@ -61,13 +61,20 @@ fn judge_step(planner: &Planner, row: &Row, random: &mut Random) -> Verdict<()> 
         reward: row.number(6)?,
         units: row.number(7)?,
     };
-    let frozen: Answer = (row.number(3)?, numbers);
+    let frozen: StepAnswer = (row.number(3)?, numbers);
     let read = read(&row.sheet);
     let here = expected_step(read.as_ref().map_err(|refusal| *refusal), node, code);
     same("step: here and on file", here, frozen)?;
     let mut numbers = step_numbers(random);
     let refusal = planner.step(&row.sheet, node, code, &mut numbers);
     same("step", (refusal, numbers), frozen)
+}
+
+/// Of the node numbers and then the potentials, as bytes.
+fn digest_of(answer: &Answer) -> String {
+    let nodes = answer.nodes.iter().flat_map(|number| number.to_le_bytes());
+    let potentials = answer.potentials.iter().flat_map(|weight| weight.to_le_bytes());
+    digest(&nodes.chain(potentials).collect::<Vec<u8>>())
 }
 
 fn judge_plan_row(planner: &Planner, row: &Row, random: &mut Random) -> Verdict<()> {
@@ -79,7 +86,7 @@ fn judge_plan_row(planner: &Planner, row: &Row, random: &mut Random) -> Verdict<
             let graph = expected.graph.expect("an accepted sheet has a graph");
             same("arcs: here and on file", graph.arcs.len(), row.number(4)?)?;
             let nodes = graph.numbers.len();
-            (format!("ratio {} {}|nodes {nodes}", answer.p, answer.q), digest(&answer.bytes))
+            (format!("ratio {} {}|nodes {nodes}", answer.p, answer.q), digest_of(&answer))
         }
     };
     same("answer", &output, &row.columns[1])?;

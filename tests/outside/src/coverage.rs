@@ -13,7 +13,7 @@ use crate::tally::Tally;
 pub const SHEETS: u64 = 20_000;
 
 /// Each kind and the least number of its cases among so many sheets.
-pub const PROMISED: [(&str, u64); 76] = [
+pub const PROMISED: [(&str, u64); 78] = [
     ("plan answers:  0", 4000),
     ("plan answers:  1", 20_000),
     ("plan answers:  2", 100),
@@ -54,6 +54,7 @@ pub const PROMISED: [(&str, u64); 76] = [
     ("accepted: 1 clock", 500),
     ("accepted: 2 clocks", 500),
     ("accepted: 3 clocks", 500),
+    ("accepted: 4 clocks", 500),
     ("accepted: all bounds and guards closed", 500),
     ("accepted: some bound or guard strict", 500),
     ("accepted: ratio below 0", 500),
@@ -89,7 +90,8 @@ pub const PROMISED: [(&str, u64); 76] = [
     ("refused 13: idle cycles, and an arc earns", 300),
     ("refused 14: idle cycles, some gain and none costs", 200),
     ("refused 14: idle cycles, some gain and some cost", 100),
-    ("length: 580 bytes", 100),
+    ("allowed steps: from a number of 2^32 and more", 5000),
+    ("allowed steps: to a number of 2^32 and more", 15_000),
 ];
 
 pub fn count_accepted(tally: &mut Tally, sheet: &Sheet, graph: &Graph, answer: &Answer) {

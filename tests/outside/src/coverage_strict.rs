@@ -62,7 +62,7 @@ pub fn promised() -> Vec<(String, u64)> {
         let only = (format!("refused 18, strict is only: {place}"), 100);
         [only, (format!("refused 18, strict among others: {place}"), 100)]
     });
-    let clocks = [150, 50, 17].into_iter().enumerate();
+    let clocks = [150, 50, 17, 17].into_iter().enumerate();
     let clocks = clocks.flat_map(|(clock, least)| {
         bytes.map(|byte| (format!("refused 18, strict is only: {byte} of clock {clock}"), least))
     });

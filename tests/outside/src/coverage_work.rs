@@ -42,6 +42,7 @@ fn count_pairs(tally: &mut Tally, sheet: &Sheet, plan: &WorkPlan) {
         ("1 clock", sheet.clocks == 1),
         ("2 clocks", sheet.clocks == 2),
         ("3 clocks", sheet.clocks == 3),
+        ("4 clocks", sheet.clocks == 4),
         ("no time in the cycle", cycle.iter().all(|pair| pair.0 == 0)),
         ("time in the cycle", cycle.iter().any(|pair| pair.0 > 0)),
         ("a wait of 9 units and more", longest >= 9),
@@ -89,7 +90,7 @@ pub fn count_work(
 }
 
 /// Each kind and the least number of its cases, but for the refusals from 2 on by themselves.
-const PROMISED: [(&str, u64); 41] = [
+const PROMISED: [(&str, u64); 42] = [
     ("work plan answers:  1", 20_000),
     ("nothing strict, work plan answers:  0", 1000),
     ("nothing strict, work plan answers: 12", 50),
@@ -117,6 +118,7 @@ const PROMISED: [(&str, u64); 41] = [
     ("work plan with: 1 clock", 300),
     ("work plan with: 2 clocks", 300),
     ("work plan with: 3 clocks", 300),
+    ("work plan with: 4 clocks", 300),
     ("work plan with: no time in the cycle", 500),
     ("work plan with: time in the cycle", 300),
     ("work plan with: a wait of 9 units and more", 150),

@@ -2,6 +2,7 @@
 
 use crate::fields::Field;
 use crate::random::Random;
+use crate::shapes::some_clocks;
 use crate::write::Written;
 
 fn put_bad_value(random: &mut Random, bytes: &mut [u8], at: usize, field: Field) {
@@ -10,8 +11,8 @@ fn put_bad_value(random: &mut Random, bytes: &mut [u8], at: usize, field: Field)
         Field::Cost => random.pick(&[0, 10_001, -10_001, 32_767, -32_768]),
         Field::Reward => random.pick(&[0, 10_001, 32_768, 65_535]),
         Field::Mask => random.pick(&[0, 1 << clocks, 255]),
-        Field::Upper => random.pick(&[26, 27, 128, 255]),
-        Field::Lower => random.pick(&[0, 26, 255]),
+        Field::Upper(_) => random.pick(&[26, 27, 128, 255]),
+        Field::Lower(_) => random.pick(&[0, 26, 255]),
     };
     for (byte, new) in bytes[at..].iter_mut().zip(value.to_le_bytes()).take(field.width()) {
         *byte = new;
@@ -19,20 +20,23 @@ fn put_bad_value(random: &mut Random, bytes: &mut [u8], at: usize, field: Field)
 }
 
 fn header(random: &mut Random, bytes: &mut [u8]) {
-    match random.below(4) {
-        0 => bytes[0] = random.pick(&[0, 2, 255]),
-        1 => bytes[1] = random.pick(&[0, 13, 14, 255]),
-        2 => bytes[2] = random.pick(&[0, 4, 255]),
+    match random.below(5) {
+        0 => bytes[0] = random.pick(&[0, 3, 255]),
+        // 1 for 2, and 2 for 1
+        1 => bytes[0] ^= 3,
+        2 => bytes[1] = random.pick(&[0, 13, 14, 255]),
+        3 => bytes[2] = random.pick(&[0, 4, 5, 255]),
         _ => bytes[3] = random.pick(&[33, 34, 255]),
     }
 }
 
 fn length(random: &mut Random, bytes: &mut Vec<u8>) {
-    match random.below(5) {
+    match random.below(6) {
         0 => bytes.truncate(random.below(5)),
-        1 => bytes.resize(random.pick(&[579, 580, 581, 582, 1000, 70_000]), 0),
-        2 => bytes.truncate(random.below(bytes.len() + 1)),
-        3 => bytes.truncate(bytes.len().saturating_sub(1 + random.below(3))),
+        1 => bytes.resize(random.pick(&[655, 656, 657, 658, 1000, 70_000]), 0),
+        2 => bytes.resize(random.within(579, 660) as usize, 0),
+        3 => bytes.truncate(random.below(bytes.len() + 1)),
+        4 => bytes.truncate(bytes.len().saturating_sub(1 + random.below(3))),
         _ => bytes.extend((0..1 + random.below(3)).map(|_| random.next() as u8)),
     }
 }
@@ -79,7 +83,7 @@ fn bad_end(random: &mut Random, bytes: &mut [u8], ends: &[usize]) {
 
 /// Lets the start ask for clock 0 to be below 0.
 pub fn close_start(bytes: &mut [u8], sheet: &Written) {
-    let first = sheet.fields.iter().find(|field| field.1 == Field::Upper);
+    let first = sheet.fields.iter().find(|field| field.1 == Field::Upper(0));
     bytes[first.expect("location 0 has a bound").0] = 0;
 }
 
@@ -159,9 +163,11 @@ pub fn damage_more(random: &mut Random, sheet: &Written) -> Vec<u8> {
 
 /// Bytes that begin like a sheet, or not even that.
 pub fn noise(random: &mut Random) -> Vec<u8> {
-    let length = if random.percent(20) { random.below(6) } else { random.below(600) };
+    let length = if random.percent(20) { random.below(6) } else { random.below(670) };
     let mut bytes: Vec<u8> = (0..length).map(|_| random.next() as u8).collect();
-    let header = [1, random.within(1, 12) as u8, random.within(1, 3) as u8, random.below(33) as u8];
+    let (edition, clocks) = some_clocks(random);
+    let counts = [random.within(1, 12) as u8, clocks as u8, random.below(33) as u8];
+    let header = [edition.byte(), counts[0], counts[1], counts[2]];
     if random.percent(85) {
         bytes.iter_mut().zip(header).for_each(|(byte, new)| *byte = new);
     }

@@ -1,5 +1,7 @@
 //! The faults that can be planted, by their names.
 
+use crate::planted_editions::{EditionFault, EDITION_FAULTS};
+use crate::planted_layout::{LayoutFault, LAYOUT_FAULTS};
 use crate::planted_pairs::{PairFault, PAIR_FAULTS};
 use crate::planted_smallest::{SmallestFault, SMALLEST_FAULTS};
 use crate::planted_strict::{Question18, QUESTION_18_FAULTS};
@@ -84,6 +86,10 @@ pub enum Fault {
     Work(Work),
     /// A fault in question 18.
     Question18(Question18),
+    /// A fault in what the editions lay down for sheets.
+    Edition(EditionFault),
+    /// A fault in the layout of node numbers.
+    Layout(LayoutFault),
 }
 
 const FAULTS: [(&str, Fault); 29] = [
@@ -129,5 +135,7 @@ pub fn faults() -> Vec<(&'static str, Fault)> {
     faults.extend(PAIR_FAULTS.map(|(name, fault)| (name, Fault::Pairs(fault))));
     faults.extend(WORK_FAULTS.map(|(name, fault)| (name, Fault::Work(fault))));
     faults.extend(QUESTION_18_FAULTS.map(|(name, fault)| (name, Fault::Question18(fault))));
+    faults.extend(EDITION_FAULTS.map(|(name, fault)| (name, Fault::Edition(fault))));
+    faults.extend(LAYOUT_FAULTS.map(|(name, fault)| (name, Fault::Layout(fault))));
     faults
 }

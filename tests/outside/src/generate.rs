@@ -1,5 +1,6 @@
 //! Random sheets of a given shape.
 
+use crate::edition::{Edition, MOST_CLOCKS};
 use crate::random::Random;
 use crate::sheet::{Edge, Location, Sheet};
 
@@ -14,6 +15,7 @@ pub enum Prices {
 /// What a random sheet looks like; `strict`, `guards`, `resets`, `earning` and `rates` in percent.
 #[derive(Clone, Copy)]
 pub struct Shape {
+    pub edition: Edition,
     pub clocks: usize,
     pub locations: usize,
     pub edges: usize,
@@ -33,8 +35,8 @@ pub struct Shape {
 
 /// How many nodes a location has room for: those of all regions within its bounds.
 pub fn room(location: &Location, clocks: usize) -> usize {
-    // Nodes of all regions in which a given set of 0, 1, 2 or 3 clocks has a fraction.
-    const CORNERS: [usize; 4] = [1, 2, 8, 44];
+    // Nodes of all regions in which a given set of so many clocks has a fraction, of 0 and more.
+    const CORNERS: [usize; MOST_CLOCKS + 1] = [1, 2, 8, 44, 308];
     let nodes_of = |set: usize| -> usize {
         let ways = (0..clocks).map(|j| {
             let upper = usize::from(location.upper[j]);
@@ -126,19 +128,21 @@ fn edge(random: &mut Random, shape: &Shape, place: usize) -> Edge {
 
 /// A sheet of this shape; no two of its edges are equal.
 pub fn sheet(random: &mut Random, shape: &Shape) -> Sheet {
-    let mut sheet = Sheet { clocks: shape.clocks, ..Sheet::default() };
-    let mut left = shape.room;
+    let Shape { edition, clocks, .. } = *shape;
+    let mut sheet = Sheet { edition, clocks, ..Sheet::default() };
+    // Few of the many regions of four clocks are reached.
+    let mut left = if clocks == 4 { 10 * shape.room } else { shape.room };
     for place in 0..shape.locations {
         let mut made = location(random, shape);
         if place > 0 && random.percent(2) {
             // Below 0: no state may be here.
-            made.upper[random.below(shape.clocks)] = 0;
+            made.upper[random.below(clocks)] = 0;
         }
-        while room(&made, shape.clocks) > left.max(1) {
-            let j = random.below(shape.clocks);
+        while room(&made, clocks) > left.max(1) {
+            let j = random.below(clocks);
             made.upper[j] = made.upper[j].saturating_sub(2).max(1);
         }
-        left = left.saturating_sub(room(&made, shape.clocks));
+        left = left.saturating_sub(room(&made, clocks));
         sheet.locations.push(made);
     }
     for place in 0..shape.edges {

@@ -1,5 +1,6 @@
 //! Idle cycles, those without reward, in random sheets: what they cost is laid.
 
+use crate::edition::MOST_CLOCKS;
 use crate::generate::{cost, reward, Prices};
 use crate::random::Random;
 use crate::sheet::{Edge, Location, Sheet};
@@ -51,7 +52,7 @@ pub fn take_rewards(random: &mut Random, sheet: &mut Sheet, prices: Prices) {
     let target = sheet.locations.len();
     if random.percent(50) && target < 12 && sheet.edges.len() < 32 {
         let source = random.below(target);
-        sheet.locations.push(Location { upper: [25; 3], ..Location::default() });
+        sheet.locations.push(Location { upper: [25; MOST_CLOCKS], ..Location::default() });
         let (cost, reward) = (cost(random, prices), reward(random, prices));
         sheet.edges.push(Edge { source, target, cost, reward, ..Edge::default() });
     }

@@ -12,7 +12,7 @@ use std::collections::HashSet;
 
 /// What no step writes.
 const UNWRITTEN: StepNumbers =
-    StepNumbers { number: u32::MAX, cost: i64::MIN, reward: i64::MIN, units: i64::MIN };
+    StepNumbers { number: u64::MAX, cost: i64::MIN, reward: i64::MIN, units: i64::MIN };
 
 /// What steps take, cost and earn together.
 #[derive(Default)]
@@ -31,13 +31,13 @@ impl Sums {
 }
 
 /// A step along the lasso, taken here and by the library.
-fn take(planner: &Planner, bytes: &[u8], sheet: &Sheet, number: u32, code: u16) -> Verdict<Step> {
+fn take(planner: &Planner, bytes: &[u8], sheet: &Sheet, number: u64, code: u16) -> Verdict<Step> {
     let node = node_of(sheet, number).expect("a lasso is stepped from node to node");
     let taken = step(sheet, &node, code)
         .ok_or_else(|| format!("lasso: code {code} is not allowed at node {number}"))?;
     let mut numbers = UNWRITTEN;
     let refusal = planner.lasso_step(bytes, number, code, &mut numbers);
-    same("lasso: the library's own step", (refusal, numbers), (0, told(&taken)))?;
+    same("lasso: the library's own step", (refusal, numbers), (0, told(&taken, sheet.edition)))?;
     Ok(taken)
 }
 
@@ -79,7 +79,7 @@ pub fn judge_lasso(
         let taken = take(planner, bytes, sheet, number, code)?;
         let part = if place < first { &mut stem } else { &mut cycle };
         part.add(&taken);
-        number = taken.to.number();
+        number = taken.to.number(sheet.edition);
         if !met.insert(number) && place + 1 < length {
             return Err(format!("lasso: node {number} is met twice"));
         }

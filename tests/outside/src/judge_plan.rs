@@ -20,8 +20,8 @@ pub struct Answer {
     pub cycle: Vec<u16>,
     pub stem_sums: Sums,
     pub cycle_sums: Sums,
-    /// The node numbers and then the potentials as bytes, for a digest.
-    pub bytes: Vec<u8>,
+    pub nodes: Vec<u64>,
+    pub potentials: Vec<i64>,
 }
 
 /// A plan that is judged; an answer where it was accepted.
@@ -100,8 +100,7 @@ fn judge_accepted(
     judge_potentials(graph, buffers, p, q)?;
     let sheet = expected.sheet.as_ref().expect("an accepted sheet is read");
     let (stem_sums, cycle_sums) = judge_lasso(planner, bytes, sheet, buffers, numbers)?;
-    let nodes = buffers.nodes[..count].iter().flat_map(|number| number.to_le_bytes());
-    let potentials = &buffers.potentials[..count];
+    let potentials = buffers.potentials[..count].to_vec();
     let (stem, length) = (s as usize, (s + m) as usize);
     Ok(Answer {
         p,
@@ -111,7 +110,8 @@ fn judge_accepted(
         stem_sums,
         cycle_sums,
         lowest_potential: potentials.iter().copied().min().expect("the start has a potential"),
-        bytes: nodes.chain(potentials.iter().flat_map(|weight| weight.to_le_bytes())).collect(),
+        nodes: buffers.nodes[..count].to_vec(),
+        potentials,
     })
 }
 

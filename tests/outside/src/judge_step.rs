@@ -1,25 +1,28 @@
 //! Single steps of the library against the steps taken here.
 
+use crate::coverage_editions;
+use crate::edition::Edition;
 use crate::expected::Expected;
 use crate::library::Planner;
 use crate::marked::step_numbers;
+use crate::numbers::{numbers, Tried};
 use crate::random::Random;
-use crate::region::{node_of, step, Node, Step, MOVE, UNIT};
+use crate::region::{node_of, step, Step, MOVE, UNIT};
 use crate::sheet::Sheet;
 use crate::tally::Tally;
 use crate::verdict::{same, Verdict};
 use planner::calls::StepNumbers;
 
 /// The refusal, and the new node's number, the cost, the reward and the units.
-pub type Answer = (u8, StepNumbers);
+pub type StepAnswer = (u8, StepNumbers);
 
 /// What the library has to tell of an allowed step.
-pub fn told(step: &Step) -> StepNumbers {
+pub fn told(step: &Step, edition: Edition) -> StepNumbers {
     let Step { to, cost, reward, units } = *step;
-    StepNumbers { number: to.number(), cost, reward, units }
+    StepNumbers { number: to.number(edition), cost, reward, units }
 }
 
-pub fn expected_step(bytes_read: Result<&Sheet, u8>, number: u32, code: u16) -> Answer {
+pub fn expected_step(bytes_read: Result<&Sheet, u8>, number: u64, code: u16) -> StepAnswer {
     let refused = |refusal| (refusal, StepNumbers::default());
     let sheet = match bytes_read {
         Ok(sheet) => sheet,
@@ -29,39 +32,9 @@ pub fn expected_step(bytes_read: Result<&Sheet, u8>, number: u32, code: u16) -> 
         None => refused(15),
         Some(node) => match step(sheet, &node, code) {
             None => refused(16),
-            Some(taken) => (0, told(&taken)),
+            Some(taken) => (0, told(&taken, sheet.edition)),
         },
     }
-}
-
-/// A number with the layout of a node's, of which many are those of nodes.
-fn likely_number(sheet: &Sheet, random: &mut Random) -> u32 {
-    let location = random.below(sheet.locations.len());
-    let mut node = Node { location, whole: [0; 3], class: [0; 3], corner: 0 };
-    let classes = random.pick(&[[0, 0, 1], [1, 1, 0], [1, 2, 2], [2, 1, 0], [2, 3, 1], [3, 1, 2]]);
-    let loose = random.percent(30);
-    for (j, class) in classes.into_iter().enumerate().take(sheet.clocks) {
-        let c = usize::from(sheet.locations[location].upper[j] / 2);
-        node.whole[j] = random.below(c + if loose { 3 } else { 1 }).min(15) as u8;
-        node.class[j] = if loose { random.below(4) as u8 } else { class };
-    }
-    let most = node.class.into_iter().max().unwrap_or(0) + u8::from(loose);
-    node.corner = random.within(0, i64::from(most)).min(3) as u8;
-    node.number()
-}
-
-fn numbers(expected: &Expected, random: &mut Random) -> Vec<u32> {
-    let (sheet, graph) = match (&expected.sheet, &expected.graph) {
-        (Some(sheet), Some(graph)) => (sheet, graph),
-        _ => return vec![0, random.next() as u32],
-    };
-    let reachable = |random: &mut Random| random.pick(&graph.numbers);
-    let flipped = reachable(random) ^ 1 << random.below(32);
-    let mut numbers = vec![reachable(random), reachable(random), reachable(random), flipped];
-    numbers.extend((0..4).map(|_| likely_number(sheet, random)));
-    numbers.push(random.next() as u32);
-    numbers.push(random.next() as u32 & 0xf_ffff);
-    numbers
 }
 
 /// The kinds of codes.
@@ -76,15 +49,34 @@ fn kind(code: u16) -> usize {
     }
 }
 
-/// How often each number is answered to each kind of code.
-type Answers = [[u64; 18]; KINDS.len()];
+/// Node numbers from here on do not fit in 32 bits.
+const WIDE: u64 = 1 << 32;
 
-fn count_answers(answers: &Answers, tally: &mut Tally) {
-    for (kind, counts) in KINDS.iter().zip(answers) {
-        for (answer, &count) in counts.iter().enumerate().filter(|(_, &count)| count > 0) {
-            tally.add(format!("step answers: {answer:>2}"), count);
-            tally.add(format!("step answers to {kind}: {answer:>2}"), count);
+#[derive(Default)]
+struct Counts {
+    /// How often each number is answered to each kind of code.
+    answers: [[u64; 18]; KINDS.len()],
+    /// How many allowed steps there are from numbers of 2^32 and more, and to them.
+    from_wide: u64,
+    to_wide: u64,
+}
+
+impl Counts {
+    fn add(&mut self, number: u64, code: u16, answer: &StepAnswer) {
+        self.answers[kind(code)][usize::from(answer.0)] += 1;
+        self.from_wide += u64::from(answer.0 == 0 && number >= WIDE);
+        self.to_wide += u64::from(answer.1.number >= WIDE);
+    }
+
+    fn tell(&self, tally: &mut Tally) {
+        for (kind, counts) in KINDS.iter().zip(&self.answers) {
+            for (answer, &count) in counts.iter().enumerate().filter(|(_, &count)| count > 0) {
+                tally.add(format!("step answers: {answer:>2}"), count);
+                tally.add(format!("step answers to {kind}: {answer:>2}"), count);
+            }
         }
+        tally.add("allowed steps: from a number of 2^32 and more", self.from_wide);
+        tally.add("allowed steps: to a number of 2^32 and more", self.to_wide);
     }
 }
 
@@ -97,8 +89,8 @@ pub fn judge_steps(
     tally: &mut Tally,
 ) -> Verdict<()> {
     let read = expected.sheet.as_ref().ok_or(expected.refusal);
-    let mut answers = Answers::default();
-    for number in numbers(expected, random) {
+    let mut counts = Counts::default();
+    for Tried { number, unnamed } in numbers(expected, random) {
         let far = [255, 256, 256 + 32, 256 + 33, 1 << 15 | 32, 65_535, random.next() as u16];
         for code in (0..=40).chain(far) {
             let answer = expected_step(read, number, code);
@@ -106,9 +98,13 @@ pub fn judge_steps(
             let refusal = planner.step(bytes, number, code, &mut numbers);
             same(&format!("step {code} at {number}"), refusal, answer.0)?;
             same(&format!("numbers of step {code} at {number}"), numbers, answer.1)?;
-            answers[kind(code)][usize::from(answer.0)] += 1;
+            counts.add(number, code, &answer);
+        }
+        if let (Some(bit), Ok(sheet)) = (unnamed, read) {
+            let (answer, _) = expected_step(read, number, MOVE);
+            tally.count(coverage_editions::unnamed(sheet.edition, bit, answer));
         }
     }
-    count_answers(&answers, tally);
+    counts.tell(tally);
     Ok(())
 }

@@ -3,6 +3,7 @@
 use crate::border::exact;
 use crate::built::{dear_ring, long, ring};
 use crate::damage::{damage, damage_more, noise};
+use crate::edition::Edition;
 use crate::generate::{leave_out_copies, sheet, Prices, Shape};
 use crate::idle::{lay, take_rewards, take_some_rewards, Laid};
 use crate::random::Random;
@@ -28,11 +29,11 @@ const KINDS: [(&str, u64); 25] = [
     ("large", 40),
     ("border", 70),
     ("dense", 20),
-    ("too many", 30),
+    ("too many", 25),
     ("no cycle", 40),
-    ("idle, costs", 45),
+    ("idle, costs", 55),
     ("idle, free", 40),
-    ("idle, gains", 45),
+    ("idle, gains", 75),
     ("extreme", 30),
     ("ring", 20),
     ("dear ring", 10),
@@ -41,17 +42,24 @@ const KINDS: [(&str, u64); 25] = [
     (TWICE_AND_FAULT, 30),
     ("edges alike", 40),
     ("all edges alike", 5),
-    ("damaged", 80),
-    ("damaged more", 50),
-    ("noise", 15),
+    ("damaged", 60),
+    ("damaged more", 40),
+    ("noise", 10),
 ];
 
 fn border_bytes(random: &mut Random, dense: bool) -> Vec<u8> {
-    let clocks = random.pick(&[2, 2, 3]);
+    let (first, second) = (Edition::First, Edition::Second);
+    let some = [(first, 2), (first, 2), (first, 3), (second, 2), (second, 3), (second, 4)];
+    let (edition, clocks) = random.pick(&some);
     let shape = Shape {
+        edition,
         clocks,
         locations: if dense { 1 } else { 2 + random.below(3) },
-        bound: if clocks == 2 { 12 } else { random.within(3, 5) },
+        bound: match clocks {
+            2 => 12,
+            3 => random.within(3, 5),
+            _ => random.within(1, 3),
+        },
         strict: random.pick(&[0, 40]),
         prices: random.pick(&[Prices::Small, Prices::Wide, Prices::Extreme]),
         guards: 0,

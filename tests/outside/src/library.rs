@@ -11,10 +11,11 @@ pub struct Planner {
     pub fault: Option<Fault>,
 }
 
-/// What a plan answered, but for its nodes and its lasso.
+/// What a plan answered, but for its lasso.
 pub struct Answered {
     pub refusal: u8,
     pub numbers: PlanNumbers,
+    pub nodes: Vec<u64>,
     pub potentials: Vec<i64>,
 }
 
@@ -23,16 +24,22 @@ impl Planner {
         match (self.fault, calls::check(sheet)) {
             (Some(Fault::Check), 8) => 9,
             (Some(Fault::Twice(twice)), refusal) => twice.checked(sheet, refusal),
+            (Some(Fault::Edition(fault)), refusal) => fault.checked(sheet, refusal),
             (_, refusal) => refusal,
         }
     }
 
-    pub fn step(&self, sheet: &[u8], node: u32, code: u16, numbers: &mut StepNumbers) -> u8 {
+    pub fn step(&self, sheet: &[u8], node: u64, code: u16, numbers: &mut StepNumbers) -> u8 {
         let swapped = self.fault == Some(Fault::Step) && (code == 32 || code == 33);
         let code = if swapped { 65 - code } else { code };
+        let node = match self.fault {
+            Some(Fault::Layout(fault)) => fault.taken(sheet, node),
+            _ => node,
+        };
         let before = *numbers;
         let refusal = calls::step(sheet, node, code, numbers);
         match (self.fault, refusal) {
+            (Some(Fault::Layout(fault)), 0) => fault.answered(sheet, numbers),
             (Some(Fault::Number), 15) => return 16,
             (Some(Fault::Twice(Twice::Step)), 17) => return 16,
             (Some(Fault::Stale), 2..) => numbers.cost = before.cost,
@@ -42,7 +49,7 @@ impl Planner {
         refusal
     }
 
-    pub fn lasso_step(&self, sheet: &[u8], node: u32, code: u16, numbers: &mut StepNumbers) -> u8 {
+    pub fn lasso_step(&self, sheet: &[u8], node: u64, code: u16, numbers: &mut StepNumbers) -> u8 {
         let before = *numbers;
         let refusal = calls::step(sheet, node, code, numbers);
         match self.fault {
@@ -96,8 +103,9 @@ impl Planner {
         };
         let mut numbers = PlanNumbers::default();
         let refusal = self.plan(sheet, &mut buffers, &mut numbers);
-        let mut potentials = buffers.potentials;
+        let Buffers { mut nodes, mut potentials, .. } = buffers;
+        nodes.truncate(numbers.n as usize);
         potentials.truncate(numbers.n as usize);
-        Answered { refusal, numbers, potentials }
+        Answered { refusal, numbers, nodes, potentials }
     }
 }

@@ -16,14 +16,14 @@ pub fn short_length(random: &mut Random, enough: usize) -> usize {
 /// The three buffers lent to a plan.
 #[derive(Clone, PartialEq)]
 pub struct Buffers {
-    pub nodes: Vec<u32>,
+    pub nodes: Vec<u64>,
     pub potentials: Vec<i64>,
     pub steps: Vec<u16>,
 }
 
 pub fn buffers(random: &mut Random, lengths: [usize; 3]) -> Buffers {
     Buffers {
-        nodes: (0..lengths[0]).map(|_| random.next() as u32 | 1).collect(),
+        nodes: (0..lengths[0]).map(|_| random.next() | 1).collect(),
         potentials: (0..lengths[1]).map(|_| random.next() as i64 | 1).collect(),
         steps: (0..lengths[2]).map(|_| random.next() as u16 | 1).collect(),
     }
@@ -54,5 +54,5 @@ pub fn plan_numbers(random: &mut Random) -> PlanNumbers {
 
 pub fn step_numbers(random: &mut Random) -> StepNumbers {
     let [cost, reward, units] = [(); 3].map(|_| random.next() as i64 | 1);
-    StepNumbers { number: random.next() as u32 | 1, cost, reward, units }
+    StepNumbers { number: random.next() | 1, cost, reward, units }
 }

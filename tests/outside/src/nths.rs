@@ -20,7 +20,7 @@ const MOST_NTHS: u32 = 4;
 const SHEETS: u64 = 10_000;
 
 /// Each kind and the least number of its cases among so many sheets.
-const PROMISED: [(&str, u64); 13] = [
+const PROMISED: [(&str, u64); 19] = [
     (NONE_BELOW, 3000),
     ("accepted: idle loops, all cost", 200),
     ("accepted: idle loops, all free", 100),
@@ -34,6 +34,12 @@ const PROMISED: [(&str, u64); 13] = [
     ("refused 13: idle loops, some gain and none costs", 100),
     ("refused 13: idle loops, some gain and some cost", 100),
     (CLOSED_GAINS, 50),
+    ("four clocks, closed, plan answers:  0", 150),
+    ("four clocks, closed, plan answers: 13", 100),
+    ("four clocks, closed, plan answers: 14", 5),
+    ("four clocks, strict, plan answers:  0", 300),
+    ("four clocks, strict, plan answers: 13", 300),
+    ("four clocks, strict, plan answers: 14", 10),
 ];
 
 const NONE_BELOW: &str =
@@ -146,6 +152,10 @@ fn judge_sheet(planner: &Planner, sheet: &Sheet, bytes: &[u8], tally: &mut Tally
         13 => judge_13(&all, tally)?,
         14 => judge_14(sheet, &all, tally)?,
         refusal => tally.count(format!("left out: refused {refusal}")),
+    }
+    if sheet.clocks == 4 {
+        let strictness = if all_closed(sheet) { "closed" } else { "strict" };
+        tally.count(format!("four clocks, {strictness}, plan answers: {:>2}", answered.refusal));
     }
     tally.add("states: in all", all.iter().map(|runs| runs.states as u64).sum());
     Ok(())

@@ -81,6 +81,8 @@ pub fn accepted(
         Fault::Terms => (numbers.p, numbers.q) = (2 * numbers.p, 2 * numbers.q),
         Fault::Potential => buffers.potentials[n - 1] += 1,
         Fault::Smallest(fault) => fault.plant(sheet, buffers, numbers),
+        Fault::Edition(fault) => return fault.plan(sheet, buffers, numbers),
+        Fault::Layout(fault) => fault.listed(sheet, buffers, numbers),
         Fault::Node if n < buffers.nodes.len() => {
             buffers.nodes[n] = buffers.nodes[n - 1] + 1;
             numbers.n += 1;

@@ -39,14 +39,14 @@ pub const SMALLEST_FAULTS: [(&str, SmallestFault); 8] = [
 ];
 
 /// The start and the nodes that an edge enters.
-fn entered(sheet: &[u8]) -> HashSet<u32> {
+fn entered(sheet: &[u8]) -> HashSet<u64> {
     let graph = expect(sheet).graph.expect("an accepted sheet has a graph");
     let arcs = graph.arcs.iter().zip(&graph.codes).filter(|(_, code)| **code < UNIT);
     arcs.map(|(arc, _)| graph.numbers[arc.to]).chain([0]).collect()
 }
 
 /// The nodes of the walk from the start.
-fn along(sheet: &[u8], codes: &[u16]) -> HashSet<u32> {
+fn along(sheet: &[u8], codes: &[u16]) -> HashSet<u64> {
     let mut node = 0;
     let steps = codes.iter().map(|&code| {
         node = planner::step(sheet, node, code).expect("the lasso is a walk").node;
@@ -66,7 +66,7 @@ impl SmallestFault {
     fn told(self, sheet: &[u8], buffers: &Buffers, numbers: &PlanNumbers, smallest: i64) -> i64 {
         let count = numbers.n as usize;
         let potentials = &buffers.potentials[..count];
-        let smallest_of = |some: HashSet<u32>| {
+        let smallest_of = |some: HashSet<u64>| {
             let entries = buffers.nodes[..count].iter().zip(potentials);
             let those = entries.filter(|(node, _)| some.contains(node));
             those.map(|(_, potential)| *potential).min().expect("the start is one of them")

@@ -34,15 +34,17 @@ pub enum Question18 {
     OtherClocks,
     /// The last clock passes, unless it is the only one.
     LastClock,
+    /// The fourth clock passes.
+    FourthClock,
     /// An absent upper guard is taken for strict.
     Absent,
     /// A lower guard is asked as if it were an upper one.
     AsUpper,
-    /// The bounds of three clocks are asked of each sheet, and are 0 where they are not there.
-    ThreeClocks,
+    /// The bounds of as many clocks as the edition allows are asked, and are 0 where there are none.
+    AbsentClocks,
 }
 
-pub const QUESTION_18_FAULTS: [(&str, Question18); 20] = [
+pub const QUESTION_18_FAULTS: [(&str, Question18); 21] = [
     ("strict-before-17", Question18::Before(17)),
     ("strict-before-11", Question18::Before(11)),
     ("strict-before-12", Question18::Before(12)),
@@ -62,7 +64,8 @@ pub const QUESTION_18_FAULTS: [(&str, Question18); 20] = [
     ("strict-last-clock", Question18::LastClock),
     ("strict-absent", Question18::Absent),
     ("strict-as-upper", Question18::AsUpper),
-    ("strict-three-clocks", Question18::ThreeClocks),
+    ("strict-absent-clocks", Question18::AbsentClocks),
+    ("strict-fourth-clock", Question18::FourthClock),
 ];
 
 impl Question18 {
@@ -82,6 +85,7 @@ impl Question18 {
             Question18::LastEdge => !bound && strict.at + 1 == sheet.edges.len(),
             Question18::OtherClocks => strict.clock > 0,
             Question18::LastClock => sheet.clocks > 1 && strict.clock + 1 == sheet.clocks,
+            Question18::FourthClock => strict.clock == 3,
             _ => false,
         }
     }
@@ -92,7 +96,7 @@ impl Question18 {
         match self {
             Question18::Absent => edges().any(|edge| edge.upper[..sheet.clocks].contains(&None)),
             Question18::AsUpper => edges().any(|edge| edge.lower.iter().any(Option::is_some)),
-            Question18::ThreeClocks => sheet.clocks < 3,
+            Question18::AbsentClocks => sheet.clocks < sheet.edition.most_clocks(),
             _ => false,
         }
     }

@@ -3,6 +3,7 @@
 use crate::arguments::Arguments;
 use crate::cases::{rows, Row};
 use crate::hexadecimal;
+use crate::sheet::LONGEST_SHEET;
 use crate::verdict::{same, Verdict};
 use std::io::Write;
 use std::process::{Command, Output, Stdio};
@@ -50,18 +51,23 @@ fn judge_slowly(program: &str, row: &Row) -> Verdict<()> {
     judge(program, &parts, 10, &row.columns[1])
 }
 
-/// Input beyond the length of any sheet, also where it begins with an accepted one.
+/// An accepted sheet with bytes behind it: up to the length of the longest sheet they are left over,
+/// and from there on they make it too long.
 fn judge_long_inputs(program: &str, row: &Row) -> Verdict<usize> {
-    let lengths = [581, 582, 1024, 4096, 65_536, 65_537, 1_000_000];
-    for length in lengths {
+    let left_over = [581, 655, LONGEST_SHEET].map(|length| (length, "refused 10"));
+    let too_long = [LONGEST_SHEET + 1, LONGEST_SHEET + 2, 1024, 4096, 65_536, 65_537, 1_000_000];
+    let too_long = too_long.map(|length| (length, "refused 2"));
+    let mut fed = 0;
+    for (length, refused) in left_over.into_iter().chain(too_long) {
         let mut long = row.sheet.clone();
         long.resize(length, 0);
-        judge(program, &[&long], 0, "refused 2").map_err(|m| format!("{length} bytes: {m}"))?;
         let (start, end) = long.split_at(580);
-        judge(program, &[start, end], 30, "refused 2")
-            .map_err(|m| format!("{length} bytes: {m}"))?;
+        for parts in [&[&long[..]][..], &[start, end]] {
+            judge(program, parts, 30, refused).map_err(|m| format!("{length} bytes: {m}"))?;
+            fed += 1;
+        }
     }
-    Ok(2 * lengths.len())
+    Ok(fed)
 }
 
 pub fn run(arguments: &Arguments) -> Verdict<()> {
@@ -83,6 +89,6 @@ pub fn run(arguments: &Arguments) -> Verdict<()> {
     println!("the printing program");
     println!("  {:>9}  frozen plans printed as on file", rows.len());
     println!("  {slow:>9}  of them again, through a slow pipe in parts");
-    println!("  {long:>9}  inputs longer than any sheet refused");
+    println!("  {long:>9}  sheets with bytes behind them refused");
     Ok(())
 }

@@ -1,12 +1,13 @@
 //! Nodes, their numbers and single steps: questions 15 and 16 of the specification.
 
+use crate::edition::{Edition, MOST_CLOCKS, WHOLE_BITS};
 use crate::sheet::{Edge, Location, Sheet};
 
 #[derive(Clone, Copy)]
 pub struct Node {
     pub location: usize,
-    pub whole: [u8; 3],
-    pub class: [u8; 3],
+    pub whole: [u8; MOST_CLOCKS],
+    pub class: [u8; MOST_CLOCKS],
     pub corner: u8,
 }
 
@@ -23,10 +24,11 @@ pub const UNIT: u16 = 32;
 pub const MOVE: u16 = 33;
 
 impl Node {
-    pub fn number(&self) -> u32 {
-        let mut number = u32::from(self.corner) | (self.location as u32) << 20;
-        for j in 0..3 {
-            number |= (u32::from(self.class[j]) | u32::from(self.whole[j]) << 2) << (2 + 6 * j);
+    pub fn number(&self, edition: Edition) -> u64 {
+        let mut number = u64::from(self.corner) | (self.location as u64) << edition.location_bit();
+        for j in 0..edition.most_clocks() {
+            let parts = u64::from(self.class[j]) | u64::from(self.whole[j]) << edition.rank_bits();
+            number |= parts << edition.clock_bit(j);
         }
         number
     }
@@ -59,19 +61,21 @@ fn within(location: &Location, node: &Node, clocks: usize) -> bool {
 }
 
 /// The node of this sheet that has the number, if there is one.
-pub fn node_of(sheet: &Sheet, number: u32) -> Option<Node> {
-    let location = (number >> 20) as usize;
-    let mut node = Node { location, whole: [0; 3], class: [0; 3], corner: (number & 3) as u8 };
-    for j in 0..3 {
-        let bits = number >> (2 + 6 * j) & 63;
-        if j >= sheet.clocks && bits != 0 {
-            return None;
-        }
-        node.class[j] = (bits & 3) as u8;
-        node.whole[j] = (bits >> 2) as u8;
+pub fn node_of(sheet: &Sheet, number: u64) -> Option<Node> {
+    let edition = sheet.edition;
+    let part = |first: u32, bits: u32| (number >> first & ((1 << bits) - 1)) as u8;
+    let corner = part(0, edition.rank_bits());
+    let location = (number >> edition.location_bit()) as usize;
+    let mut node = Node { location, whole: [0; MOST_CLOCKS], class: [0; MOST_CLOCKS], corner };
+    for j in 0..sheet.clocks {
+        let first = edition.clock_bit(j);
+        node.class[j] = part(first, edition.rank_bits());
+        node.whole[j] = part(first + edition.rank_bits(), WHOLE_BITS);
     }
     let ranks = node.ranks();
-    let ok = location < sheet.locations.len()
+    // A number with a bit of a clock that the sheet has not is another than that of the node read.
+    let ok = node.number(edition) == number
+        && location < sheet.locations.len()
         && (1..ranks).all(|rank| node.class.contains(&rank))
         && node.corner <= ranks
         && within(&sheet.locations[location], &node, sheet.clocks);
@@ -92,7 +96,7 @@ fn take_edge(sheet: &Sheet, node: &Node, edge: &Edge) -> Option<Step> {
     }
     let mut next = *node;
     next.location = edge.target;
-    let mut left = [false; 4];
+    let mut left = [false; MOST_CLOCKS + 1];
     for j in 0..sheet.clocks {
         if edge.mask >> j & 1 == 1 {
             next.whole[j] = 0;

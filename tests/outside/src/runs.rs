@@ -6,6 +6,7 @@
 //! 0 is a loop that earns nothing and costs 0, and never below a ratio. Bounds keep the values at 12
 //! times n at most, so the states are finite, and the loops of runs are the cycles of their graph.
 
+use crate::edition::MOST_CLOCKS;
 use crate::sheet::{Edge, Sheet};
 use crate::weights::{least_weights, weighted, Arc};
 use std::collections::HashMap;
@@ -13,10 +14,10 @@ use std::collections::HashMap;
 #[derive(Clone, Copy, Debug, PartialEq, Eq, Hash)]
 pub struct State {
     pub location: usize,
-    values: [u32; 3],
+    values: [u32; MOST_CLOCKS],
 }
 
-pub const START: State = State { location: 0, values: [0; 3] };
+pub const START: State = State { location: 0, values: [0; MOST_CLOCKS] };
 
 pub struct Runs {
     pub states: usize,

@@ -1,12 +1,23 @@
 //! The shapes of the kinds of random sheets.
 
+use crate::edition::Edition;
 use crate::generate::{Prices, Shape};
 use crate::random::Random;
 
+/// An edition, and a number of clocks that it allows; of edition 2 half of the time four.
+pub fn some_clocks(random: &mut Random) -> (Edition, usize) {
+    match random.below(2) {
+        0 => (Edition::First, 1 + random.below(3)),
+        _ => (Edition::Second, random.pick(&[1, 2, 3, 4, 4, 4])),
+    }
+}
+
 pub fn small_shape(random: &mut Random) -> Shape {
+    let (edition, clocks) = some_clocks(random);
     let locations = 1 + random.below(5);
     Shape {
-        clocks: 1 + random.below(3),
+        edition,
+        clocks,
         locations,
         edges: locations + 1 + random.below(8),
         bound: random.within(2, 5),
@@ -47,16 +58,23 @@ fn ring_shape(random: &mut Random, locations: usize) -> Shape {
     }
 }
 
+/// The shape of a sheet whose first three clocks are reset apart.
+fn slow_shape(random: &mut Random, locations: usize) -> Shape {
+    let ring = ring_shape(random, locations);
+    Shape { clocks: ring.clocks.max(3), ..ring }
+}
+
 fn long_shape(random: &mut Random) -> Shape {
+    let small = small_shape(random);
     Shape {
-        clocks: 3,
+        clocks: small.edition.most_clocks(),
         locations: 12,
         edges: 32,
         guards: 100,
         resets: 70,
         earning: 100,
         prices: Prices::Negative,
-        ..small_shape(random)
+        ..small
     }
 }
 
@@ -73,7 +91,7 @@ pub fn shape_of(random: &mut Random, kind: &str) -> Shape {
         "strict" => Shape { strict: 100, ..small },
         "large" => large_shape(random),
         "too many" => Shape {
-            clocks: 3,
+            clocks: small.edition.most_clocks(),
             room: 100_000,
             guards: 5,
             bound: random.within(4, 12),
@@ -94,9 +112,9 @@ pub fn shape_of(random: &mut Random, kind: &str) -> Shape {
         }
         "slow ring" | "slow ring left" => {
             let locations = 1 + random.below(11);
-            Shape { clocks: 3, ..ring_shape(random, locations) }
+            slow_shape(random, locations)
         }
-        "slow clocks" => Shape { clocks: 3, ..ring_shape(random, 1) },
+        "slow clocks" => slow_shape(random, 1),
         "dear ring" => {
             let locations = 11 + random.below(2);
             ring_shape(random, locations)

@@ -1,13 +1,17 @@
 //! A sheet, and its reading: questions 2 to 11 and 17 of the specification.
 
-use crate::fields::{Field, EDGE_BITS, LOCATION_BITS};
+use crate::edition::{Edition, MOST_CLOCKS};
+use crate::fields::{edge_bits, location_bits, permitted, Field};
 use std::collections::HashSet;
+
+/// The bytes of the longest sheet.
+pub const LONGEST_SHEET: usize = 656;
 
 #[derive(Clone, Default)]
 pub struct Location {
     pub cost: i64,
     pub reward: i64,
-    pub upper: [u8; 3],
+    pub upper: [u8; MOST_CLOCKS],
 }
 
 #[derive(Clone, Default, PartialEq)]
@@ -17,12 +21,13 @@ pub struct Edge {
     pub cost: i64,
     pub reward: i64,
     pub mask: u8,
-    pub lower: [Option<u8>; 3],
-    pub upper: [Option<u8>; 3],
+    pub lower: [Option<u8>; MOST_CLOCKS],
+    pub upper: [Option<u8>; MOST_CLOCKS],
 }
 
 #[derive(Clone, Default)]
 pub struct Sheet {
+    pub edition: Edition,
     pub clocks: usize,
     pub locations: Vec<Location>,
     pub edges: Vec<Edge>,
@@ -33,7 +38,8 @@ struct Reader<'a> {
     clocks: usize,
 }
 
-type Values = [Option<i64>; 9];
+/// The fields of a record that are there, with their values.
+type Values = Vec<(Field, i64)>;
 
 impl<'a> Reader<'a> {
     fn take(&mut self, count: usize) -> Result<&'a [u8], u8> {
@@ -56,65 +62,74 @@ impl<'a> Reader<'a> {
 
     /// Takes the fields that the map calls for, without a look at their values.
     fn fields(&mut self, map: u16, bits: &[Field]) -> Result<Values, u8> {
-        let mut values = [None; 9];
-        for (bit, field) in bits.iter().enumerate() {
+        let mut values = Vec::new();
+        for (bit, &field) in bits.iter().enumerate() {
             if map >> bit & 1 == 1 {
                 let bytes = self.take(field.width())?;
-                values[bit] = Some(match field {
+                let value = match field {
                     Field::Cost => i64::from(i16::from_le_bytes([bytes[0], bytes[1]])),
                     Field::Reward => i64::from(u16::from_le_bytes([bytes[0], bytes[1]])),
                     _ => i64::from(bytes[0]),
-                });
+                };
+                values.push((field, value));
             }
         }
         Ok(values)
     }
 
-    fn in_range(&self, values: &Values, bits: &[Field]) -> Result<(), u8> {
-        for (value, field) in values.iter().zip(bits) {
-            if value.is_some_and(|v| !field.admits(v, self.clocks)) {
-                return Err(8);
-            }
+    fn in_range(&self, values: &Values) -> Result<(), u8> {
+        if values.iter().all(|(field, value)| field.admits(*value, self.clocks)) {
+            return Ok(());
         }
-        Ok(())
+        Err(8)
     }
 
-    fn location(&mut self) -> Result<Location, u8> {
-        let bounds = ((1 << self.clocks) - 1) << 2;
-        let map = self.map(1, 3 | bounds)?;
-        let values = self.fields(map, &LOCATION_BITS)?;
-        if map & bounds != bounds {
+    fn location(&mut self, bits: &[Field]) -> Result<Location, u8> {
+        let map = self.map(1, permitted(bits, self.clocks))?;
+        let values = self.fields(map, bits)?;
+        let bounds = values.iter().filter(|(field, _)| matches!(field, Field::Upper(_)));
+        if bounds.count() < self.clocks {
             return Err(7);
         }
-        self.in_range(&values, &LOCATION_BITS)?;
-        let byte = |at: usize| values[at].unwrap_or(0) as u8;
-        Ok(Location {
-            cost: values[0].unwrap_or(0),
-            reward: values[1].unwrap_or(0),
-            upper: [byte(2), byte(3), byte(4)],
-        })
+        self.in_range(&values)?;
+        let mut location = Location::default();
+        for (field, value) in values {
+            match field {
+                Field::Cost => location.cost = value,
+                Field::Reward => location.reward = value,
+                Field::Upper(clock) => location.upper[clock] = value as u8,
+                _ => unreachable!("a location has no other field"),
+            }
+        }
+        Ok(location)
     }
 
-    fn edge(&mut self, locations: usize) -> Result<Edge, u8> {
-        let clocks = (1 << self.clocks) - 1;
-        let map = self.map(2, 7 | clocks << 3 | clocks << 6)?;
+    fn edge(&mut self, bits: &[Field], locations: usize) -> Result<Edge, u8> {
+        let map = self.map(2, permitted(bits, self.clocks))?;
         let ends = self.take(2)?;
-        let values = self.fields(map, &EDGE_BITS)?;
-        self.in_range(&values, &EDGE_BITS)?;
+        let values = self.fields(map, bits)?;
+        self.in_range(&values)?;
         let (source, target) = (usize::from(ends[0]), usize::from(ends[1]));
         if source >= locations || target >= locations {
             return Err(9);
         }
-        let guard = |at: usize| values[at].map(|v| v as u8);
-        Ok(Edge {
-            source,
-            target,
-            cost: values[0].unwrap_or(0),
-            reward: values[1].unwrap_or(0),
-            mask: values[2].unwrap_or(0) as u8,
-            lower: [guard(3), guard(4), guard(5)],
-            upper: [guard(6), guard(7), guard(8)],
-        })
+        let mut edge = Edge { source, target, ..Edge::default() };
+        values.into_iter().for_each(|(field, value)| edge.put(field, Some(value)));
+        Ok(edge)
+    }
+}
+
+impl Edge {
+    /// Puts the value in the field, or takes the field away.
+    pub fn put(&mut self, field: Field, value: Option<i64>) {
+        let byte = value.map(|value| value as u8);
+        match field {
+            Field::Cost => self.cost = value.unwrap_or(0),
+            Field::Reward => self.reward = value.unwrap_or(0),
+            Field::Mask => self.mask = byte.unwrap_or(0),
+            Field::Lower(clock) => self.lower[clock] = byte,
+            Field::Upper(clock) => self.upper[clock] = byte,
+        }
     }
 }
 
@@ -127,25 +142,25 @@ impl Sheet {
 /// The sheet with the bytes of each edge record, or the number of the first of questions 2 to 10
 /// answered no.
 pub fn read_records(bytes: &[u8]) -> Result<(Sheet, Vec<&[u8]>), u8> {
-    if bytes.len() < 4 || bytes.len() > 580 {
+    if bytes.len() < 4 || bytes.len() > LONGEST_SHEET {
         return Err(2);
     }
-    if bytes[0] != 1 {
-        return Err(3);
-    }
+    let edition = Edition::of_byte(bytes[0]).ok_or(3)?;
     let [locations, clocks, edges] = [bytes[1], bytes[2], bytes[3]].map(usize::from);
-    if !(1..=12).contains(&locations) || !(1..=3).contains(&clocks) || edges > 32 {
+    let few_clocks = (1..=edition.most_clocks()).contains(&clocks);
+    if !(1..=12).contains(&locations) || !few_clocks || edges > 32 {
         return Err(4);
     }
+    let (location_bits, edge_bits) = (location_bits(edition), edge_bits(edition));
     let mut reader = Reader { rest: &bytes[4..], clocks };
-    let mut sheet = Sheet { clocks, ..Sheet::default() };
+    let mut sheet = Sheet { edition, clocks, ..Sheet::default() };
     let mut records = Vec::new();
     for _ in 0..locations {
-        sheet.locations.push(reader.location()?);
+        sheet.locations.push(reader.location(&location_bits)?);
     }
     for _ in 0..edges {
         let before = reader.rest;
-        sheet.edges.push(reader.edge(locations)?);
+        sheet.edges.push(reader.edge(&edge_bits, locations)?);
         records.push(&before[..before.len() - reader.rest.len()]);
     }
     if !reader.rest.is_empty() {

@@ -3,32 +3,50 @@
 use crate::alike::{self, count_alike, count_but_for_17};
 use crate::arguments::Arguments;
 use crate::coverage::{count_accepted, count_refused, PROMISED, SHEETS};
+use crate::coverage_editions::{count_answers, count_checked, count_fourth};
 use crate::coverage_strict;
 use crate::coverage_sums::{self, count_sums};
 use crate::coverage_work::{self, count_work};
 use crate::expected::{expect, refusal_but_for_17, Expected};
 use crate::hexadecimal;
 use crate::judge_check::judge_check;
-use crate::judge_plan::judge_plan;
+use crate::judge_plan::{judge_plan, Answer};
 use crate::judge_step::judge_steps;
 use crate::judge_work::judge_work;
 use crate::kinds::{generate, STRICT_AND_FAULT, TWICE_AND_FAULT};
 use crate::library::Planner;
+use crate::promised_editions;
 use crate::random::Random;
-use crate::sheet::read_records;
+use crate::sheet::{read_records, Sheet};
 use crate::tally::Tally;
+use crate::twin::{self, judge_twin};
 use crate::verdict::Verdict;
 
-fn count_edges(tally: &mut Tally, bytes: &[u8], expected: &Expected) {
-    if let Ok((sheet, records)) = read_records(bytes) {
-        count_alike(tally, &records);
-        if expected.refusal == 17 {
-            count_but_for_17(tally, refusal_but_for_17(&sheet));
+/// How many in a hundred sheets of up to three clocks are judged beside their twins.
+const TWINS: u64 = 50;
+
+/// Of a sheet that passes questions 2 to 10.
+fn count_read(tally: &mut Tally, sheet: &Sheet, records: &[&[u8]], expected: &Expected) {
+    count_alike(tally, records);
+    if expected.refusal == 17 {
+        count_but_for_17(tally, refusal_but_for_17(sheet));
+    }
+    count_answers(tally, sheet, expected.refusal, expected.work_refusal());
+}
+
+fn count_plan(tally: &mut Tally, expected: &Expected, answer: Option<&Answer>) {
+    match (expected, answer) {
+        (Expected { sheet: Some(sheet), graph: Some(graph), .. }, Some(answer)) => {
+            count_accepted(tally, sheet, graph, answer);
+            count_fourth(tally, sheet, graph, answer);
+            count_sums(tally, answer);
         }
+        _ => count_refused(tally, expected),
     }
 }
 
-/// Judges the check, the plan, the work plan and single steps of one sheet. What was expected.
+/// Judges the check, the plan, the work plan, single steps and often the twin of one sheet. What was
+/// expected.
 fn judge(planner: &Planner, bytes: &[u8], seed: u64, tally: &mut Tally) -> Verdict<Expected> {
     let random = &mut Random::new(!seed);
     let expected = expect(bytes);
@@ -40,20 +58,19 @@ fn judge(planner: &Planner, bytes: &[u8], seed: u64, tally: &mut Tally) -> Verdi
     count_work(tally, &expected, answer, &worked);
     tally.count("plan answers:  1");
     tally.count(format!("plan answers: {:>2}", expected.refusal));
-    if bytes.len() == 580 {
-        tally.count("length: 580 bytes");
-    }
     if judged.longer && [0, 12, 13, 14].contains(&expected.refusal) {
         tally.count(format!("longer buffers, plan answers: {:>2}", expected.refusal));
     }
-    match (&expected, answer) {
-        (Expected { sheet: Some(sheet), graph: Some(graph), .. }, Some(answer)) => {
-            count_accepted(tally, sheet, graph, answer);
-            count_sums(tally, answer);
-        }
-        _ => count_refused(tally, &expected),
+    if let Some(sheet) = &expected.sheet {
+        count_checked(tally, sheet.edition, bytes.len());
     }
-    count_edges(tally, bytes, &expected);
+    count_plan(tally, &expected, answer);
+    if let Ok((sheet, records)) = read_records(bytes) {
+        count_read(tally, &sheet, &records, &expected);
+        if random.percent(TWINS) {
+            judge_twin(planner, &sheet, &expected, answer, tally)?;
+        }
+    }
     Ok(expected)
 }
 
@@ -85,6 +102,8 @@ pub fn run(arguments: &Arguments) -> Verdict<()> {
         tally.keeps(&coverage_sums::PROMISED)?;
         tally.keeps(&coverage_work::promised())?;
         tally.keeps(&coverage_strict::promised())?;
+        tally.keeps(&promised_editions::promised())?;
+        tally.keeps(&twin::promised())?;
     }
     Ok(())
 }

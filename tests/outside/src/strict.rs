@@ -58,7 +58,7 @@ impl Strict {
     /// Whether some run comes to the location or takes the edge: the graph is whole.
     pub fn is_reached(&self, graph: &Graph) -> bool {
         match self.byte {
-            Byte::Bound => graph.numbers.iter().any(|number| (number >> 20) as usize == self.at),
+            Byte::Bound => graph.locations.contains(&self.at),
             _ => graph.codes.contains(&(self.at as u16)),
         }
     }

@@ -1,6 +1,7 @@
 //! Sheets for question 18: with no strict bound or guard, with one, and with a fault beside some.
 
 use crate::built::{long, ring, ring_entered_late, slow_clocks, slow_ring, slow_ring_left};
+use crate::edition::MOST_CLOCKS;
 use crate::expected::refusal_but_for_17;
 use crate::generate::{leave_out_copies, sheet, Shape};
 use crate::random::Random;
@@ -61,7 +62,7 @@ fn some_place(random: &mut Random, count: usize) -> usize {
 /// Adds a location that no edge enters, at any place but the first. Its number.
 fn add_location(random: &mut Random, sheet: &mut Sheet) -> usize {
     let place = 1 + some_place(random, sheet.locations.len());
-    let upper = [(); 3].map(|_| random.pick(&[1, 5, 25]));
+    let upper = [(); MOST_CLOCKS].map(|_| random.pick(&[1, 5, 25]));
     sheet.locations.insert(place, Location { upper, ..Location::default() });
     for edge in &mut sheet.edges {
         edge.source += usize::from(edge.source >= place);

@@ -3,14 +3,12 @@
 
 use crate::built::long;
 use crate::damage::{close_start, drop_bound};
+use crate::fields::{edge_bits, longest_edge, Field};
 use crate::generate::{sheet, Shape};
 use crate::random::Random;
 use crate::shapes::shorter_shape;
-use crate::sheet::{read_records, Edge, Sheet};
-use crate::write::{write, Written};
-
-/// The bytes of an edge record with every field.
-pub const LONGEST_RECORD: usize = 15;
+use crate::sheet::{read_records, Edge, Sheet, LONGEST_SHEET};
+use crate::write::{edge_value, write, Written};
 
 /// Copies an edge over the one that stands so far behind it. The places of both.
 pub fn paste(random: &mut Random, edges: &mut [Edge], distance: usize) -> [usize; 2] {
@@ -19,24 +17,20 @@ pub fn paste(random: &mut Random, edges: &mut [Edge], distance: usize) -> [usize
     [first, first + distance]
 }
 
-fn put(edge: &mut Edge, bit: usize, value: Option<i64>) {
-    let byte = value.map(|value| value as u8);
-    match bit {
-        0 => edge.cost = value.unwrap_or(0),
-        1 => edge.reward = value.unwrap_or(0),
-        2 => edge.mask = byte.unwrap_or(0),
-        3..=5 => edge.lower[bit - 3] = byte,
-        _ => edge.upper[bit - 6] = byte,
-    }
+/// The fields that an edge of the sheet may have, in the order of their bits.
+fn edge_fields(sheet: &Sheet) -> Vec<Field> {
+    let mut fields = edge_bits(sheet.edition);
+    fields.retain(|field| field.is_permitted(sheet.clocks));
+    fields
 }
 
-/// Takes the same fields away from both edges, a few or all, so that records of every length come up.
-fn thin(random: &mut Random, edges: &mut [Edge], both: [usize; 2]) {
-    let kept = random.pick(&[0, 20, 50, 80]);
-    for bit in 0..9 {
-        if !random.percent(kept) {
-            both.iter().for_each(|&place| put(&mut edges[place], bit, None));
-        }
+/// Gives both edges the same fields, few or many, so that records of every length come up.
+fn refit(random: &mut Random, sheet: &mut Sheet, both: [usize; 2]) {
+    let share = random.below(101) as u64;
+    for field in edge_fields(sheet) {
+        let value = edge_value(&sheet.edges[both[0]], field).unwrap_or(1);
+        let value = random.percent(share).then_some(value);
+        both.iter().for_each(|&place| sheet.edges[place].put(field, value));
     }
 }
 
@@ -47,7 +41,7 @@ pub fn twice(random: &mut Random, shape: &Shape) -> Sheet {
     let mut made = sheet(random, &Shape { edges, ..*shape });
     let both = paste(random, &mut made.edges, distance);
     if random.percent(30) {
-        thin(random, &mut made.edges, both);
+        refit(random, &mut made, both);
     }
     made
 }
@@ -55,14 +49,17 @@ pub fn twice(random: &mut Random, shape: &Shape) -> Sheet {
 /// A fault that another question of the check finds. One in an edge is laid in each of these.
 pub fn lay_fault(random: &mut Random, sheet: &Written, edges: &[usize]) -> Vec<u8> {
     let mut bytes = sheet.bytes.clone();
+    let last_byte = longest_edge(sheet.edition) - 1;
+    // The second byte of an edge's map with the first bit that stands for no field.
+    let bit_beyond = 1 << (edge_bits(sheet.edition).len() - 8);
     match random.within(2, 11) {
-        2 => bytes.resize(581, 0),
-        3 => bytes[0] = 2,
+        2 => bytes.resize(LONGEST_SHEET + 1, 0),
+        3 => bytes[0] = random.pick(&[0, 3]),
         4 => bytes[3] = 33,
         5 => bytes.truncate(bytes.len() - 1 - random.below(3)),
-        6 => edges.iter().for_each(|&at| bytes[at + 1] |= 2),
+        6 => edges.iter().for_each(|&at| bytes[at + 1] |= bit_beyond),
         7 => drop_bound(random, &mut bytes, &sheet.records),
-        8 => edges.iter().for_each(|&at| bytes[at + LONGEST_RECORD - 1] = 26),
+        8 => edges.iter().for_each(|&at| bytes[at + last_byte] = 26),
         9 => edges.iter().for_each(|&at| bytes[at + 2] = bytes[1]),
         10 => bytes.push(0),
         _ => close_start(&mut bytes, sheet),
@@ -87,23 +84,26 @@ pub fn twice_and_fault(random: &mut Random) -> Vec<u8> {
     }
 }
 
-/// Two bits of an edge's map whose fields have one width, and a value that both admit.
-fn two_bits(random: &mut Random) -> (usize, usize, i64) {
+/// The places of two fields of one width, and a value that both admit.
+fn two_fields(random: &mut Random, fields: &[Field], clocks: usize) -> (usize, usize, i64) {
     if random.percent(20) {
         return (0, 1, random.within(1, 10_000));
     }
-    let low = 2 + random.below(6);
-    let high = low + 1 + random.below(8 - low);
-    (low, high, random.within(1, if low == 2 { 7 } else { 25 }))
+    let last = fields.len() - 1;
+    let low = 2 + random.below(last - 2);
+    let high = low + 1 + random.below(last - low);
+    let most = if fields[low] == Field::Mask { (1 << clocks) - 1 } else { 25 };
+    (low, high, random.within(1, most))
 }
 
 /// Gives both edges the same bytes behind different maps: the first has a field where the second has
 /// another, and neither has one between these.
-fn other_map(random: &mut Random, edges: &mut [Edge], [first, second]: [usize; 2]) {
-    let (low, high, value) = two_bits(random);
-    for bit in low..=high {
-        put(&mut edges[first], bit, (bit == low).then_some(value));
-        put(&mut edges[second], bit, (bit == high).then_some(value));
+fn other_map(random: &mut Random, sheet: &mut Sheet, [first, second]: [usize; 2]) {
+    let fields = edge_fields(sheet);
+    let (low, high, value) = two_fields(random, &fields, sheet.clocks);
+    for (place, &field) in fields.iter().enumerate().take(high + 1).skip(low) {
+        sheet.edges[first].put(field, (place == low).then_some(value));
+        sheet.edges[second].put(field, (place == high).then_some(value));
     }
 }
 
@@ -127,12 +127,12 @@ pub fn alike(random: &mut Random) -> Vec<u8> {
     if random.percent(50) {
         both.reverse();
     }
-    match random.below(LONGEST_RECORD) {
-        0 if random.percent(80) => other_map(random, &mut made.edges, both),
-        1 if random.percent(80) => put(&mut made.edges[both[0]], 8, None),
+    match random.below(longest_edge(made.edition)) {
+        0 if random.percent(80) => other_map(random, &mut made, both),
+        1 if random.percent(80) => made.edges[both[0]].put(Field::Upper(made.clocks - 1), None),
         _ => {
-            if random.percent(40) {
-                thin(random, &mut made.edges, both);
+            if random.percent(60) {
+                refit(random, &mut made, both);
             }
             let mut written = write(&made);
             let record = written.record(made.locations.len() + both[1]);
@@ -151,8 +151,8 @@ pub fn all_alike(random: &mut Random, shape: &Shape) -> Sheet {
     let first = made.edges[0].clone();
     for (place, edge) in made.edges.iter_mut().enumerate() {
         *edge = first.clone();
-        edge.upper[1] = Some(25 - (place / 26) as u8);
-        edge.upper[2] = Some((place % 26) as u8);
+        edge.upper[shape.clocks - 2] = Some(25 - (place / 26) as u8);
+        edge.upper[shape.clocks - 1] = Some((place % 26) as u8);
     }
     if random.percent(30) {
         let distance = 1 + random.below(made.edges.len() - 1);

@@ -1,11 +1,13 @@
 //! Writing a sheet, with the places of its records and fields.
 
-use crate::fields::{Field, EDGE_BITS, LOCATION_BITS};
+use crate::edition::Edition;
+use crate::fields::{edge_bits, location_bits, Field};
 use crate::sheet::{Edge, Location, Sheet};
 use std::ops::Range;
 
 #[derive(Default)]
 pub struct Written {
+    pub edition: Edition,
     pub bytes: Vec<u8>,
     /// Where each record begins.
     pub records: Vec<usize>,
@@ -19,17 +21,28 @@ fn price(value: i64) -> Option<i64> {
     (value != 0).then_some(value)
 }
 
-fn location_values(location: &Location, clocks: usize) -> Vec<Option<i64>> {
-    let mut values = vec![price(location.cost), price(location.reward)];
-    values.extend(location.upper[..clocks].iter().map(|&upper| Some(i64::from(upper))));
-    values.resize(LOCATION_BITS.len(), None);
-    values
+fn location_value(location: &Location, field: Field) -> Option<i64> {
+    match field {
+        Field::Cost => price(location.cost),
+        Field::Reward => price(location.reward),
+        Field::Upper(clock) => Some(i64::from(location.upper[clock])),
+        _ => unreachable!("a location has no other field"),
+    }
 }
 
-fn edge_values(edge: &Edge) -> Vec<Option<i64>> {
-    let mut values = vec![price(edge.cost), price(edge.reward), price(i64::from(edge.mask))];
-    values.extend(edge.lower.iter().chain(&edge.upper).map(|guard| guard.map(i64::from)));
-    values
+pub fn edge_value(edge: &Edge, field: Field) -> Option<i64> {
+    match field {
+        Field::Cost => price(edge.cost),
+        Field::Reward => price(edge.reward),
+        Field::Mask => price(i64::from(edge.mask)),
+        Field::Lower(clock) => edge.lower[clock].map(i64::from),
+        Field::Upper(clock) => edge.upper[clock].map(i64::from),
+    }
+}
+
+/// The value of each bit's field, none for clocks that the sheet has not.
+fn values(bits: &[Field], clocks: usize, of: impl Fn(Field) -> Option<i64>) -> Vec<Option<i64>> {
+    bits.iter().map(|&field| if field.is_permitted(clocks) { of(field) } else { None }).collect()
 }
 
 fn map_of(values: &[Option<i64>]) -> u16 {
@@ -53,23 +66,24 @@ impl Written {
 }
 
 pub fn write(sheet: &Sheet) -> Written {
-    let mut written = Written::default();
+    let mut written = Written { edition: sheet.edition, ..Written::default() };
     let counts = [sheet.locations.len(), sheet.clocks, sheet.edges.len()];
-    written.bytes.push(1);
+    let (location_bits, edge_bits) = (location_bits(sheet.edition), edge_bits(sheet.edition));
+    written.bytes.push(sheet.edition.byte());
     written.bytes.extend(counts.map(|count| count as u8));
     for location in &sheet.locations {
-        let values = location_values(location, sheet.clocks);
+        let values = values(&location_bits, sheet.clocks, |field| location_value(location, field));
         written.records.push(written.bytes.len());
         written.bytes.push(map_of(&values) as u8);
-        written.fields(&values, &LOCATION_BITS);
+        written.fields(&values, &location_bits);
     }
     for edge in &sheet.edges {
-        let values = edge_values(edge);
+        let values = values(&edge_bits, sheet.clocks, |field| edge_value(edge, field));
         written.records.push(written.bytes.len());
         written.bytes.extend(map_of(&values).to_le_bytes());
         written.ends.push(written.bytes.len());
         written.bytes.extend([edge.source as u8, edge.target as u8]);
-        written.fields(&values, &EDGE_BITS);
+        written.fields(&values, &edge_bits);
     }
     written
 }

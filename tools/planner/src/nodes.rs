@@ -1,13 +1,16 @@
-//! Nodes: their numbers taken apart, by the layout of edition 1, and the steps between them.
+//! Nodes: their numbers taken apart, by the layout of the edition, and the steps between them.
 
-use crate::sheet::{limits::CLOCKS, Sheet};
+use crate::sheet::{edition::Edition, limits::CLOCKS, Sheet};
 use crate::stop::Stop;
 use planner::Step;
 
 /// The refusal of a code that is not allowed at a node.
 const NOT_ALLOWED: u8 = 16;
 
-/// A location, a region and a corner.
+/// The bits of a clock's whole part in a node number, and of a location.
+const WHOLE_BITS: usize = 4;
+
+/// A location, a region and a corner. Clocks that the edition does not have are at 0.
 #[derive(Clone, Copy, Debug, PartialEq, Eq)]
 pub struct Node {
     pub location: usize,
@@ -16,14 +19,19 @@ pub struct Node {
     pub corner: u8,
 }
 
-pub fn node(number: u32) -> Node {
-    let clock = |j: usize| number >> (2 + 6 * j);
-    Node {
-        location: (number >> 20 & 15) as usize,
-        whole: [0, 1, 2].map(|j| i64::from(clock(j) >> 2 & 15)),
-        class: [0, 1, 2].map(|j| (clock(j) & 3) as u8),
-        corner: (number & 3) as u8,
+/// From the low bits up: the corner, of each clock its class and its whole part, the location.
+pub fn node(edition: Edition, number: u64) -> Node {
+    let width = edition.class_bits();
+    let part = |from: usize, bits: usize| (number >> from & ((1 << bits) - 1)) as u8;
+    let mut found = Node { location: 0, whole: [0; CLOCKS], class: [0; CLOCKS], corner: part(0, width) };
+    let mut at = width;
+    for j in 0..edition.clocks() {
+        found.class[j] = part(at, width);
+        found.whole[j] = part(at + width, WHOLE_BITS).into();
+        at += width + WHOLE_BITS;
     }
+    found.location = part(at, WHOLE_BITS).into();
+    found
 }
 
 /// The value of a clock at the node's corner point.
@@ -37,8 +45,8 @@ pub fn is_point(node: &Node) -> bool {
 }
 
 /// The allowed steps of a node that is reached, with their codes: edges that leave its location, a unit of delay and a move.
-pub fn steps(sheet: &Sheet, bytes: &[u8], number: u32) -> Result<Vec<(u16, Step)>, Stop> {
-    let location = node(number).location;
+pub fn steps(sheet: &Sheet, bytes: &[u8], number: u64) -> Result<Vec<(u16, Step)>, Stop> {
+    let location = node(sheet.edition, number).location;
     let leaves = |code: &u16| sheet.edges[usize::from(*code)].source == location;
     let mut found = Vec::new();
     for code in (0..sheet.edges.len() as u16).filter(leaves).chain([planner::UNIT, planner::MOVE]) {

@@ -87,7 +87,7 @@ exit status:
 ";
 
 pub fn version() -> String {
-    format!("planner {}, reads sheets of edition 1\n", env!("CARGO_PKG_VERSION"))
+    format!("planner {}, reads sheets of editions 1 and 2\n", env!("CARGO_PKG_VERSION"))
 }
 
 pub fn all() -> String {

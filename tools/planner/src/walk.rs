@@ -6,10 +6,10 @@ use crate::schedule::Sum;
 #[derive(Debug, PartialEq, Eq)]
 pub struct Walk {
     /// The number of the node at which each step was taken.
-    pub nodes: Vec<u32>,
+    pub nodes: Vec<u64>,
     /// The units of time that each step took.
     pub units: Vec<i64>,
-    pub end: u32,
+    pub end: u64,
     pub sum: Sum,
 }
 
@@ -17,12 +17,12 @@ pub struct Walk {
 #[derive(Debug, PartialEq, Eq)]
 pub struct Stuck {
     pub place: usize,
-    pub node: u32,
+    pub node: u64,
     pub code: u16,
     pub refusal: planner::Refusal,
 }
 
-pub fn walk(bytes: &[u8], from: u32, codes: &[u16]) -> Result<Walk, Stuck> {
+pub fn walk(bytes: &[u8], from: u64, codes: &[u16]) -> Result<Walk, Stuck> {
     let (nodes, units) = (Vec::with_capacity(codes.len()), Vec::with_capacity(codes.len()));
     let mut walk = Walk { nodes, units, end: from, sum: Sum::default() };
     for (place, code) in codes.iter().copied().enumerate() {

@@ -3,13 +3,8 @@
 
 mod common;
 
-use common::Dice;
-use tool::sheet::{
-    decode::decode,
-    describe::describe,
-    encode::{edge_record, encode},
-    *,
-};
+use common::{push_once, Dice};
+use tool::sheet::{decode::decode, describe::describe, edition::Edition, encode::encode, *};
 use tool::text::parse;
 
 impl Dice {
@@ -34,8 +29,8 @@ impl Dice {
     }
 
     fn sheet(&mut self) -> Sheet {
-        let (locations, clocks, edges) = (1 + self.below(12) as usize, 1 + self.below(3) as usize, self.below(33) as usize);
-        let mut sheet = Sheet { clocks: ["x", "y", "z"][..clocks].iter().map(|c| c.to_string()).collect(), ..Sheet::default() };
+        let mut sheet = self.blank_sheet();
+        let (locations, clocks, edges) = (1 + self.below(12) as usize, sheet.clocks.len(), self.below(33) as usize);
         for i in 0..locations {
             // the first location admits all clocks at 0
             let upper = self.bytes(clocks, u64::from(i == 0), true);
@@ -46,11 +41,7 @@ impl Dice {
             let (source, target) = (self.below(locations as u64) as usize, self.below(locations as u64) as usize);
             let (lower, upper) = (self.bytes(clocks, 1, false), self.bytes(clocks, 0, false));
             let (cost, reward, reset) = (self.cost(), self.reward(), self.below(1 << clocks) as u8);
-            let edge = Edge { name: format!("e{i}"), source, target, cost, reward, reset, lower, upper };
-            let record = edge_record(&edge);
-            if sheet.edges.iter().all(|other| edge_record(other) != record) {
-                sheet.edges.push(edge);
-            }
+            push_once(&mut sheet, Edge { name: format!("e{i}"), source, target, cost, reward, reset, lower, upper });
         }
         sheet
     }
@@ -62,13 +53,15 @@ fn by_text(bytes: &[u8]) -> Vec<u8> {
 
 #[test]
 fn sheets_come_back() {
-    let mut dice = Dice(1);
+    let (mut dice, mut counts) = (Dice(1), [[0; 4]; 2]);
     for turn in 0..500 {
         let sheet = dice.sheet();
         let bytes = encode(&sheet);
         assert_eq!(decode(&bytes).unwrap(), sheet, "turn {turn}");
         assert_eq!(by_text(&bytes), bytes, "turn {turn}");
+        counts[usize::from(sheet.edition == Edition::Second)][sheet.clocks.len() - 1] += 1;
     }
+    assert!(counts[0][..3].iter().chain(&counts[1]).all(|count| *count > 30), "{counts:?}");
 }
 
 #[test]

@@ -26,15 +26,60 @@ cycle 4
   33 32 33 0
 ";
 
-fn bench() -> Certificate {
+fn certificate_of(sheet: &[u8]) -> Certificate {
     let mut planner = planner::Planner::new();
-    Certificate::of(&BENCH, &planner.plan(&BENCH).expect("a plan"))
+    Certificate::of(sheet, &planner.plan(sheet).expect("a plan"))
+}
+
+fn bench() -> Certificate {
+    certificate_of(&BENCH)
 }
 
 #[test]
 fn it_reads_like_this() {
     assert_eq!(written(&bench()), TEXT);
     assert_eq!(read(TEXT), Ok(bench()));
+}
+
+/// The version is the edition of the sheet; that of edition 2 has other node numbers.
+#[test]
+fn bench_of_edition_2_reads_like_this() {
+    let certificate = certificate_of(&[&[2], &BENCH[1..]].concat());
+    let numbers = [("4 1 ", "8 1 "), ("5 0 ", "9 0 "), ("16 1 ", "64 1 "), ("20 2 ", "72 2 "), ("21 1 ", "73 1 "), ("32 2 ", "128 2 ")];
+    let lines = numbers.map(|(first, second)| (format!("\n  {first}"), format!("\n  {second}")));
+    let text = TEXT.replace("certificate 1", "certificate 2").replace("  0101", "  0201");
+    let text = lines.iter().fold(text, |text, (first, second)| text.replace(first, second));
+    assert_eq!(written(&certificate), text);
+    assert_eq!(read(&text), Ok(certificate));
+}
+
+/// In either edition a number of 64 bits is read, and the rules tell that it is no node's, also where its low 32 bits are one.
+#[test]
+fn numbers_of_64_bits_are_read_and_refused() {
+    for (edition, node) in [(1, 20), (2, 72)] {
+        let sheet = [&[edition], &BENCH[1..]].concat();
+        let text = written(&certificate_of(&sheet)).replace("nodes 7", "nodes 8");
+        for number in [(1 << 32) + node, u64::MAX] {
+            let other = read(&text.replace("\nstem", &format!("\n  {number} 2\nstem"))).expect("a certificate");
+            assert_eq!(other.nodes[7], number);
+            let broken = verify(&sheet, &other).expect_err("no node");
+            assert_eq!((broken.rule, broken.what), ("nodes-of-sheet", format!("{number} is not the number of a node of the sheet")));
+        }
+    }
+}
+
+/// Bytes that name no edition go with either version: the rules tell that they are another sheet, and no sheet.
+#[test]
+fn a_sheet_of_no_edition_is_read_and_refused() {
+    let empty = ("sheet 18\n  01010101050100050f000000050002000102", "sheet 0");
+    for version in ["certificate 1", "certificate 2"] {
+        for ((part, other), refusal) in [(("  0101", "  0301"), 3), (("  0101", "  0001"), 3), (empty, 2)] {
+            let certificate = read(&TEXT.replace("certificate 1", version).replace(part, other)).expect("a certificate");
+            assert_eq!(verify(&BENCH, &certificate).map_err(|broken| broken.rule), Err("same-sheet"));
+            assert_eq!(verify(&certificate.sheet, &certificate).map_err(|broken| broken.rule), Err("checked-sheet"));
+            assert_eq!(planner::check(&certificate.sheet).map_err(|told| told.number()), Err(refusal));
+        }
+    }
 }
 
 #[test]
@@ -47,12 +92,15 @@ fn comments_spaces_and_lines_are_free() {
 }
 
 /// What is replaced in the text, by what, and the mistake's line, what is wrong and the beginning of what was expected.
-const MISTAKES: [(&str, &str, usize, &str, &str); 35] = [
+const MISTAKES: [(&str, &str, usize, &str, &str); 39] = [
     ("planner certificate 1", "clocks x", 1, "this is no certificate", "'planner certificate 1' on the first line"),
     ("planner certificate 1", "planner certificate", 1, "this is no certificate", "'planner certificate 1'"),
     ("planner certificate 1", "\nplanner certificate 1", 2, "the format is named late", "'planner certificate 1'"),
-    ("certificate 1", "certificate 2", 1, "certificate version 2", "version 1"),
-    ("certificate 1", "certificate one", 1, "found 'one'", "version 1"),
+    ("certificate 1", "certificate 2", 1, "certificate version 2 of a sheet of edition 1", "version 1"),
+    ("  0101", "  0201", 1, "certificate version 1 of a sheet of edition 2", "version 2"),
+    ("certificate 1", "certificate 3", 1, "certificate version 3", "version 1 or 2"),
+    ("certificate 1", "certificate 257", 1, "certificate version 257", "version 1 or 2"),
+    ("certificate 1", "certificate one", 1, "found 'one'", "version 1 or 2"),
     ("certificate 1\n", "certificate 1 1\n", 1, "this is no certificate", "'planner certificate 1'"),
     ("sheet 18", "sheets 18", 6, "found 'sheets'", "a line like: sheet 7"),
     ("sheet 18", "sheet", 6, "found the end", "a line like: sheet 7"),
@@ -70,11 +118,12 @@ const MISTAKES: [(&str, &str, usize, &str, &str); 35] = [
     ("ratio 3 1", "ratio 3 +1", 8, "found '+1'", "a line like: ratio 3 1"),
     ("ratio 3 1\n", "", 8, "found 'nodes'", "a line like: ratio 3 1"),
     ("nodes 7", "nodes 6", 16, "found '32'", "a line like: stem 7"),
-    ("nodes 7", "nodes 8", 17, "found 'stem'", "the number of a node, 0 to 4294967295, and its potential"),
-    ("  4 1 ", "  4 ", 11, "found the end", "the number of a node, 0 to 4294967295, and its potential"),
+    ("nodes 7", "nodes 8", 17, "found 'stem'", "the number of a node, 0 to 18446744073709551615, and its potential"),
+    ("  4 1 ", "  4 ", 11, "found the end", "the number of a node, 0 to 18446744073709551615, and its potential"),
     ("  4 1 ", "  4 1 1 ", 11, "found '1'", "the number of a node"),
     ("  4 1 ", "  04 1 ", 11, "found '04'", "the number of a node"),
-    ("  4 1 ", "  4294967296 1 ", 11, "found '4294967296'", "the number of a node"),
+    ("  4 1 ", "  18446744073709551616 1 ", 11, "found '18446744073709551616'", "the number of a node"),
+    ("  4 1 ", "  -4 1 ", 11, "found '-4'", "the number of a node"),
     ("  4 1 ", "  4 -9223372036854775809 ", 11, "found '-9223372036854775809'", "the number of a node"),
     ("  4 1 ", "  4 -0 ", 11, "found '-0'", "the number of a node"),
     ("stem 0", "stem 1", 18, "found 'cycle'", "codes, each 0 to 65535: 1 of the stem, of which 0 are read"),

@@ -67,7 +67,7 @@ const PLANTS: [(Plant, &str, &str); 35] = [
     (|c| c.nodes = (0..2049).collect(), "node-count", "2049 nodes are listed, and 2048 are the most"),
     (|c| c.nodes.swap(1, 2), "nodes-rise", "node 4 (location 0, clocks at 1) stands behind node 5 (location 0, clocks at 0)"),
     (|c| c.nodes[2] = c.nodes[1], "nodes-rise", "node 4 (location 0, clocks at 1) stands behind node 4"),
-    (|c| c.nodes.push(u32::MAX), "nodes-of-sheet", "4294967295 is not the number of a node"),
+    (|c| c.nodes.push(u64::MAX), "nodes-of-sheet", "18446744073709551615 is not the number of a node"),
     (|c| c.nodes[1] = 1, "nodes-of-sheet", "1 is not the number of a node"),
     (|c| c.nodes.retain(|node| *node != 0), "start-listed", "node 0, is not listed"),
     (|c| c.nodes.clear(), "start-listed", "node 0, is not listed"),
@@ -121,9 +121,10 @@ fn each_planted_fault_is_refused_for_its_reason() {
 #[test]
 fn a_sheet_that_the_check_refuses_is_told() {
     let mut certificate = small();
-    certificate.sheet[0] = 2;
+    certificate.sheet[0] = 3;
     let broken = told(&certificate.sheet, &certificate);
-    assert_eq!((broken.rule, broken.what.as_str()), ("checked-sheet", "the sheet is refused 3: Is the edition 1?"));
+    let refusal = planner::check(&certificate.sheet).expect_err("no such edition");
+    assert_eq!((refusal.number(), broken.rule, broken.what), (3, "checked-sheet", format!("the sheet is {refusal}")));
     certificate.sheet.clear();
     assert_eq!(told(&[], &certificate).rule, "checked-sheet");
 }

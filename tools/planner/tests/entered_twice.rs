@@ -89,7 +89,7 @@ fn an_edge_with_a_mistake_is_not_compared() {
 /// One location and so many edges, each with a cost of its own and no other field: six bytes each, from byte 6 on.
 fn edges(count: usize) -> Vec<u8> {
     let mut sheet = Sheet { clocks: vec!["x".to_string()], ..Sheet::default() };
-    sheet.locations.push(Location { upper: [Some(5), None, None], ..Location::default() });
+    sheet.locations.push(Location { upper: [Some(5), None, None, None], ..Location::default() });
     for i in 0..count {
         sheet.edges.push(Edge { name: format!("e{i}"), cost: 1 + i as i16, ..Edge::default() });
     }

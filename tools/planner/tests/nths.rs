@@ -8,6 +8,7 @@ use tool::plan::corner::{corners, Corners};
 use tool::plan::nths::{inside, least};
 use tool::run::{of_schedule, replay, Loop};
 use tool::schedule::Schedule;
+use tool::sheet::edition::Edition;
 use tool::sheet::{encode::encode, Sheet};
 
 /// The lasso of a sheet that has a plan, with its ratio.
@@ -32,11 +33,11 @@ fn region(clocks: &[i64], n: i64) -> (Vec<i64>, Vec<u8>) {
     (clocks.iter().map(|clock| clock / n).collect(), clocks.iter().map(rank).collect())
 }
 
-fn assert_along(schedule: &Schedule, corners: &Corners) {
+fn assert_along(edition: Edition, schedule: &Schedule, corners: &Corners) {
     for (row, number) in schedule.rows().zip(&corners.nodes) {
         let clocks: Vec<i64> = row.clocks.iter().map(|clock| clock + row.wait).collect();
         let (whole, class) = region(&clocks, schedule.nths);
-        let node = node(*number);
+        let node = node(edition, *number);
         assert_eq!((whole, class), (node.whole[..clocks.len()].to_vec(), node.class[..clocks.len()].to_vec()));
     }
 }
@@ -65,7 +66,7 @@ fn seeded_runs_are_in_the_regions_and_come_near() {
         assert!((1..first).all(|n| inside(&sheet, &corners, n).is_none()), "turn {turn}");
         for n in [first, 2 * first, 1000] {
             let schedule = inside(&sheet, &corners, n).unwrap_or_else(|| panic!("turn {turn}: none in {n} nths"));
-            assert_along(&schedule, &corners);
+            assert_along(sheet.edition, &schedule, &corners);
             let distance = above(&replayed(&sheet, &schedule), p, q);
             assert!(n < 1000 || distance < 0.2, "turn {turn}: {distance} above the ratio in thousandths");
         }
@@ -111,7 +112,7 @@ fn rings_that_earn_by_waiting_have_runs_that_earn() {
             let schedule = inside(&sheet, &corners, n).unwrap_or_else(|| panic!("turn {turn}: none in {n} nths"));
             let found = replayed(&sheet, &schedule);
             assert!(found.sum.reward > 0, "turn {turn}: {found}");
-            assert_along(&schedule, &corners);
+            assert_along(sheet.edition, &schedule, &corners);
             above(&found, p, q);
         }
         early += usize::from((1..first).any(|n| inside(&sheet, &corners, n).is_some()));

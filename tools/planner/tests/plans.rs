@@ -2,7 +2,7 @@
 
 mod common;
 
-use common::{source, Dice};
+use common::{closed, source, Dice};
 use tool::input::Held;
 use tool::plan::text::text;
 use tool::plan::{json::json, lasso::examined, planned, planned_in_full, Buffers, NoRun, Outcome, Plan, Planned, Standing};
@@ -77,11 +77,16 @@ fn what_is_shown_fits_the_sheet() {
 
 #[test]
 fn seeded_plans_are_shown_without_a_difference() {
-    let (mut dice, mut buffers, mut counts) = (Dice(4), Buffers::default(), [0; 7]);
-    for turn in 0..4000 {
-        let sheet = if turn % 2 == 0 { dice.small_sheet() } else { dice.ring_sheet() };
+    let (mut dice, mut buffers, mut counts, mut four) = (Dice(4), Buffers::default(), [0; 7], [0; 7]);
+    for turn in 0..6000 {
+        let sheet = match turn % 3 {
+            0 => dice.small_sheet(),
+            1 => dice.ring_sheet(),
+            _ => closed(dice.small_sheet()),
+        };
+        let has_four = sheet.clocks.len() == 4;
         let held = Held::Sheet(Source { name: format!("turn {turn}"), bytes: encode(&sheet), sheet });
-        let finer = [None, Some(1), Some(2), Some(10)][turn / 2 % 4];
+        let finer = [None, Some(1), Some(2), Some(10)][turn / 3 % 4];
         let outcome = planned_in_full(&mut buffers, &held, finer).unwrap_or_else(|stop| panic!("turn {turn}: {stop:?}"));
         assert!(text(&held, &outcome).ends_with('\n') && json(&held, &outcome).ends_with('}'), "turn {turn}");
         let place = match outcome {
@@ -109,6 +114,8 @@ fn seeded_plans_are_shown_without_a_difference() {
             }
         };
         counts[place] += 1;
+        four[place] += i32::from(has_four);
     }
     assert!(counts.into_iter().all(|count| count > 20), "{counts:?}");
+    assert!(four.into_iter().all(|count| count > 2), "with four clocks {four:?}, of all {counts:?}");
 }

@@ -3,12 +3,13 @@
 
 mod common;
 
-use common::Dice;
+use common::{push_once, Dice};
 use std::collections::{BTreeSet, VecDeque};
 use tool::certificate::{read::read, verify::verify, written, Certificate};
 use tool::nodes::node;
 use tool::reasons::{searched, words, Why};
-use tool::sheet::encode::{edge_record, encode};
+use tool::sheet::edition::Edition;
+use tool::sheet::encode::encode;
 use tool::sheet::{Bytes, Edge, Location, Sheet};
 use tool::stop::Stop;
 
@@ -31,26 +32,23 @@ impl Dice {
     }
 
     fn sheet(&mut self) -> Sheet {
-        let (locations, clocks, edges) = (1 + self.below(3) as usize, 1 + self.below(3) as usize, 2 + self.below(8) as usize);
+        let mut sheet = self.blank_sheet();
+        let (locations, clocks, edges) = (1 + self.below(3) as usize, sheet.clocks.len(), 2 + self.below(8) as usize);
         let most = [7, 9, 17, 25][self.below(4) as usize];
-        let mut sheet = Sheet { clocks: ["x", "y", "z"][..clocks].iter().map(|c| c.to_string()).collect(), ..Sheet::default() };
         for i in 0..locations {
             let (cost, reward) = (self.below(5) as i16 - 1, self.below(8).saturating_sub(6) as u16);
             let upper = self.bytes(clocks, most / 2, most, true);
             sheet.locations.push(Location { name: format!("l{i}"), cost, reward, upper });
         }
         for i in 0..edges {
-            let edge = self.edge(format!("e{i}"), locations, clocks, most);
-            if sheet.edges.iter().all(|other| edge_record(other) != edge_record(&edge)) {
-                sheet.edges.push(edge);
-            }
+            push_once(&mut sheet, self.edge(format!("e{i}"), locations, clocks, most));
         }
         sheet
     }
 }
 
 /// The locations that are reached and the edges that are taken, every code being tried at every node.
-fn everything(bytes: &[u8]) -> (BTreeSet<usize>, BTreeSet<usize>) {
+fn everything(edition: Edition, bytes: &[u8]) -> (BTreeSet<usize>, BTreeSet<usize>) {
     let (mut seen, mut ahead) = (BTreeSet::from([0]), VecDeque::from([0]));
     let mut taken = BTreeSet::new();
     while let Some(number) = ahead.pop_front() {
@@ -62,12 +60,12 @@ fn everything(bytes: &[u8]) -> (BTreeSet<usize>, BTreeSet<usize>) {
             }
         }
     }
-    (seen.into_iter().map(|number| node(number).location).collect(), taken)
+    (seen.into_iter().map(|number| node(edition, number).location).collect(), taken)
 }
 
 /// What a loop costs and earns, if the codes are a lasso.
 fn sums(bytes: &[u8], stem: &[u16], cycle: &[u16]) -> (i64, i64) {
-    let next = |node: u32, code: &u16| planner::step(bytes, node, *code).expect("an allowed step");
+    let next = |node: u64, code: &u16| planner::step(bytes, node, *code).expect("an allowed step");
     let start = stem.iter().fold(0, |node, code| next(node, code).node);
     let (mut node, mut cost, mut reward) = (start, 0, 0);
     for code in cycle {
@@ -85,7 +83,7 @@ fn explained(sheet: &Sheet, bytes: &[u8], refusal: u8, turn: usize) {
         (12, Why::Crowded(counts)) => assert_eq!(counts.iter().sum::<usize>(), 2048, "turn {turn}"),
         (13, Why::NoneEarns { reached, never, .. }) => {
             let never: Vec<usize> = never.into_iter().map(|(edge, _)| edge).collect();
-            let (locations, taken) = everything(bytes);
+            let (locations, taken) = everything(sheet.edition, bytes);
             assert_eq!(reached, Vec::from_iter(locations), "turn {turn}");
             assert_eq!(never, Vec::from_iter((0..sheet.edges.len()).filter(|edge| !taken.contains(edge))), "turn {turn}");
         }
@@ -100,10 +98,12 @@ fn explained(sheet: &Sheet, bytes: &[u8], refusal: u8, turn: usize) {
 #[test]
 fn each_refusal_has_its_reason() {
     let (mut dice, mut planner) = (Dice(9), planner::Planner::new());
-    let mut counts = [0; 19];
+    // of sheets with up to three clocks, and with four
+    let mut counts = [[0; 19]; 2];
     for turn in 0..400 {
         let sheet = dice.sheet();
         let bytes = encode(&sheet);
+        let counts = &mut counts[usize::from(sheet.clocks.len() == 4)];
         match planner.plan(&bytes) {
             Err(refusal) => {
                 explained(&sheet, &bytes, refusal.number(), turn);
@@ -120,5 +120,7 @@ fn each_refusal_has_its_reason() {
             }
         }
     }
-    assert!([0, 12, 13, 14].into_iter().all(|number| counts[number] >= 20), "{counts:?}");
+    for (counts, least) in counts.into_iter().zip([20, 2]) {
+        assert!([0, 12, 13, 14].into_iter().all(|number| counts[number] >= least), "{counts:?}");
+    }
 }

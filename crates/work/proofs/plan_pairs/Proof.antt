@@ -70,7 +70,7 @@ returns c =
     λ o. without-plan (o .is) (o .room, S p .pre .0) (p .plan .result .refusal) (c .refused .ensures) (omega arith) (answers p)
 
 is-closed-requires : tie.Need-is-closed-requires
-is-closed-requires c κs = let s = S (c .before .before .before .before) in subst (λ (x : Sheet). CountsInRange (x .locations) (x .clocks) (x .edges)) (sym (s .pre .1 .0)) (counts-in-range (now (s .args .sheet)) (s .pre .0))
+is-closed-requires c κs = let s = S (c .before .before .before .before) in subst (λ (x : Sheet). CountsInRange (x .edition) (x .locations) (x .clocks) (x .edges)) (sym (s .pre .1 .0)) (counts-in-range (now (s .args .sheet)) (s .pre .0))
 
 refused-requires-2 : tie.Need-refused-requires-2
 refused-requires-2 c κs = search needs

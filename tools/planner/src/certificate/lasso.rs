@@ -56,7 +56,7 @@ fn ratio(p: i64, q: i64) -> Result<(), Broken> {
     }
 }
 
-fn walked(sheet: &[u8], from: u32, codes: &[u16], rule: &'static str, what: &str) -> Result<Walk, Broken> {
+fn walked(sheet: &[u8], from: u64, codes: &[u16], rule: &'static str, what: &str) -> Result<Walk, Broken> {
     walk(sheet, from, codes).or_else(|Stuck { place, node, code, .. }| {
         broken(rule, format!("step {} of {what}: code {code} is not allowed at {}", place + 1, node_words(sheet, node)))
     })

@@ -11,7 +11,7 @@ const NODES: usize = planner::LEAST_ENTRIES;
 const NO_NODE: u8 = 15;
 
 /// Every step from every node of the list, if the list keeps its rules.
-pub fn arcs(sheet: &[u8], nodes: &[u32]) -> Result<Vec<Arc>, Broken> {
+pub fn arcs(sheet: &[u8], nodes: &[u64]) -> Result<Vec<Arc>, Broken> {
     if nodes.len() > NODES {
         return broken("node-count", format!("{} nodes are listed, and {NODES} are the most", nodes.len()));
     }
@@ -32,11 +32,11 @@ pub fn arcs(sheet: &[u8], nodes: &[u32]) -> Result<Vec<Arc>, Broken> {
 }
 
 /// Whatever the code, the step asks first whether the number is that of a node.
-fn is_node(sheet: &[u8], node: u32) -> bool {
+fn is_node(sheet: &[u8], node: u64) -> bool {
     planner::step(sheet, node, planner::MOVE).map_err(|refusal| refusal.number()) != Err(NO_NODE)
 }
 
-fn successors(sheet: &[u8], nodes: &[u32], from: usize, node: u32, arcs: &mut Vec<Arc>) -> Result<(), Broken> {
+fn successors(sheet: &[u8], nodes: &[u64], from: usize, node: u64, arcs: &mut Vec<Arc>) -> Result<(), Broken> {
     for code in 0..=planner::MOVE {
         let Ok(step) = planner::step(sheet, node, code) else { continue };
         match nodes.binary_search(&step.node) {

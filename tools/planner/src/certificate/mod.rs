@@ -8,7 +8,7 @@ mod reading;
 pub mod verify;
 
 use crate::sheet::hex::to_hex;
-use reading::place;
+use reading::{edition, place};
 use std::fmt::Write;
 
 #[derive(Clone, Debug, PartialEq, Eq)]
@@ -16,14 +16,11 @@ pub struct Certificate {
     pub sheet: Vec<u8>,
     pub p: i64,
     pub q: i64,
-    pub nodes: Vec<u32>,
+    pub nodes: Vec<u64>,
     pub potentials: Vec<i64>,
     pub stem: Vec<u16>,
     pub cycle: Vec<u16>,
 }
-
-/// The version of the text: node numbers of 32 bits, laid out as in edition 1.
-const VERSION: u32 = 1;
 
 const HEAD: &str = "\
 # That 'ratio P Q' is the least: P / Q is the least cost over reward of all cycles of the sheet that earn.
@@ -93,10 +90,10 @@ fn codes_text(keyword: &str, codes: &[u16]) -> String {
     text
 }
 
-/// The certificate's text.
+/// The certificate's text. Its version is the edition of the sheet, which fixes how node numbers are laid out.
 pub fn written(certificate: &Certificate) -> String {
     let Certificate { sheet, p, q, stem, cycle, .. } = certificate;
-    let mut text = format!("planner certificate {VERSION}\n{HEAD}");
+    let mut text = format!("planner certificate {}\n{HEAD}", edition(sheet).unwrap_or_default().number());
     text += &sheet_text(sheet);
     text += &format!("ratio {p} {q}\n");
     text += &nodes_text(certificate);

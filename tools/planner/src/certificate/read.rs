@@ -1,6 +1,7 @@
 //! From the text of a certificate to its parts.
 
-use super::{Certificate, VERSION};
+use super::{reading::edition, Certificate};
+use crate::sheet::edition::Edition;
 use crate::sheet::hex::{from_hex, to_hex};
 use crate::text::fault::{Fault, Place};
 use crate::text::Mistake;
@@ -8,8 +9,6 @@ use std::str::FromStr;
 
 /// The longest part of a wrong word that is told.
 const TOLD: usize = 24;
-
-const NODE: &str = "the number of a node, 0 to 4294967295, and its potential, a whole number of 64 bits";
 
 fn mistake(line: usize, what: String, expected: &str) -> Mistake {
     Mistake { line, fault: Fault::new(Place::default(), what, expected) }
@@ -24,8 +23,9 @@ struct Reader<'a> {
 /// The certificate that a text holds. Its rules are not asked here.
 pub fn read(text: &str) -> Result<Certificate, Mistake> {
     let mut reader = Reader { lines: text.lines().enumerate(), line: 1 };
-    reader.title()?;
+    let version = reader.title()?;
     let sheet = reader.entries("sheet", "bytes, each two of the digits 0 to 9 and a to f", bytes_of)?;
+    same_edition(version, &sheet)?;
     let (p, q) = reader.ratio()?;
     let (nodes, potentials) = reader.nodes()?;
     let stem = reader.entries("stem", "codes, each 0 to 65535", code_of)?;
@@ -34,6 +34,13 @@ pub fn read(text: &str) -> Result<Certificate, Mistake> {
         None => Ok(Certificate { sheet, p, q, nodes, potentials, stem, cycle }),
         Some(words) => reader.found(words.first(), "nothing after the cycle"),
     }
+}
+
+/// The version is the edition of the sheet. Of bytes that name no edition the rules tell.
+fn same_edition(version: Edition, sheet: &[u8]) -> Result<(), Mistake> {
+    let Some(edition) = edition(sheet).filter(|edition| *edition != version) else { return Ok(()) };
+    let [version, edition] = [version, edition].map(Edition::number);
+    Err(mistake(1, format!("certificate version {version} of a sheet of edition {edition}"), &format!("version {edition}")))
 }
 
 /// A number as it is written: no sign but '-', and no digit too many.
@@ -81,19 +88,19 @@ impl<'a> Reader<'a> {
     }
 
     /// The first line names the format and its version.
-    fn title(&mut self) -> Result<(), Mistake> {
-        let expected = format!("'planner certificate {VERSION}' on the first line");
+    fn title(&mut self) -> Result<Edition, Mistake> {
+        let expected = "'planner certificate 1' on the first line, or 2 for a sheet of edition 2";
         let words = self.words().unwrap_or_default();
         let ["planner", "certificate", version] = words[..] else {
-            return Err(mistake(1, "this is no certificate".to_string(), &expected));
+            return Err(mistake(1, "this is no certificate".to_string(), expected));
         };
         if self.line > 1 {
-            return self.wrong("the format is named late", &expected);
+            return self.wrong("the format is named late", expected);
         }
-        match number::<u32>(version) {
-            Some(VERSION) => Ok(()),
-            Some(other) => self.wrong(format!("certificate version {other}"), &format!("version {VERSION}")),
-            None => self.found(Some(&version), &format!("version {VERSION}")),
+        match number::<u32>(version).map(|version| (version, u8::try_from(version).ok().and_then(Edition::of))) {
+            Some((_, Some(edition))) => Ok(edition),
+            Some((other, None)) => self.wrong(format!("certificate version {other}"), "version 1 or 2"),
+            None => self.found(Some(&version), "version 1 or 2"),
         }
     }
 
@@ -149,18 +156,19 @@ impl<'a> Reader<'a> {
         }
     }
 
-    fn nodes(&mut self) -> Result<(Vec<u32>, Vec<i64>), Mistake> {
+    fn nodes(&mut self) -> Result<(Vec<u64>, Vec<i64>), Mistake> {
+        let form = format!("the number of a node, 0 to {}, and its potential, a whole number of 64 bits", u64::MAX);
         let count = self.count("nodes")?;
         let (mut nodes, mut potentials) = (Vec::new(), Vec::new());
         while nodes.len() < count {
-            let (node, potential) = self.node(&format!("{NODE}: {count} lines, of which {} are read", nodes.len()))?;
+            let (node, potential) = self.node(&format!("{form}: {count} lines, of which {} are read", nodes.len()))?;
             nodes.push(node);
             potentials.push(potential);
         }
         Ok((nodes, potentials))
     }
 
-    fn node(&mut self, expected: &str) -> Result<(u32, i64), Mistake> {
+    fn node(&mut self, expected: &str) -> Result<(u64, i64), Mistake> {
         let words = self.words().unwrap_or_default();
         let Some(node) = words.first().and_then(|word| number(word)) else { return self.found(words.first(), expected) };
         let Some(potential) = words.get(1).and_then(|word| number(word)) else { return self.found(words.get(1), expected) };

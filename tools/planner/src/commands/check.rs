@@ -19,5 +19,6 @@ pub fn check(words: &Words) -> Result<Answer, Stop> {
     let sheet = &source.sheet;
     let counts = [(sheet.locations.len(), "location"), (sheet.clocks.len(), "clock"), (sheet.edges.len(), "edge")];
     let counts = counts.map(|(number, what)| count_words(number, what)).join(", ");
-    Ok(Answer::done(format!("{}: in order: {counts}; {}\n", source.name, count_words(source.bytes.len(), "byte"))))
+    let (bytes, edition) = (count_words(source.bytes.len(), "byte"), sheet.edition.number());
+    Ok(Answer::done(format!("{}: in order: {counts}; {bytes} of edition {edition}\n", source.name)))
 }

@@ -10,11 +10,11 @@ use crate::walk::Walk;
 #[derive(Debug, PartialEq, Eq)]
 pub struct Corners {
     pub schedule: Schedule,
-    pub nodes: Vec<u32>,
+    pub nodes: Vec<u64>,
 }
 
 /// Waits before edges, where each edge is taken, and the wait behind the last one: a wait is the units that its steps take.
-pub fn visits(codes: &[u16], walk: &Walk) -> (Vec<Visit>, Vec<u32>, i64) {
+pub fn visits(codes: &[u16], walk: &Walk) -> (Vec<Visit>, Vec<u64>, i64) {
     let (mut visits, mut nodes, mut wait) = (Vec::new(), Vec::new(), 0);
     for ((code, node), units) in codes.iter().zip(&walk.nodes).zip(&walk.units) {
         wait += units;

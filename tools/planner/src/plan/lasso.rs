@@ -7,7 +7,7 @@ use crate::stop::Stop;
 use crate::walk::{walk, Stuck, Walk};
 
 /// The steps of a lasso, which have to be allowed.
-pub fn stepped(bytes: &[u8], from: u32, codes: &[u16]) -> Result<Walk, Stop> {
+pub fn stepped(bytes: &[u8], from: u64, codes: &[u16]) -> Result<Walk, Stop> {
     walk(bytes, from, codes)
         .map_err(|Stuck { node, code, refusal, .. }| Stop::Difference(format!("code {code} of the lasso at node {node} is {refusal}")))
 }

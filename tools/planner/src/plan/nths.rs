@@ -54,7 +54,7 @@ fn constraints(sheet: &Sheet, corners: &Corners) -> Times {
             begun = resets.clone();
         }
         found.at_most(i, i + 1, 0, 0, 0);
-        found.in_region(i + 1, &node(*number), &resets);
+        found.in_region(i + 1, &node(sheet.edition, *number), &resets);
         for (j, reset) in resets.iter_mut().enumerate() {
             if sheet.edges[row.edge].reset >> j & 1 == 1 {
                 *reset = i + 1;

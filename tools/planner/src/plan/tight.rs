@@ -13,7 +13,7 @@ pub fn least_walk(sheet: &Sheet, certificate: &Certificate, kind: fn(&Node) -> b
     let least = certificate.smallest_potential();
     let (mut found_by, mut ahead) = (HashMap::from([(0, None)]), VecDeque::from([0]));
     while let Some(number) = ahead.pop_front() {
-        let of_kind = kind(&node(number));
+        let of_kind = kind(&node(sheet.edition, number));
         if of_kind && potential(certificate, number)? == least {
             return Ok(Some(codes_to(&found_by, number)));
         }
@@ -28,12 +28,12 @@ pub fn least_walk(sheet: &Sheet, certificate: &Certificate, kind: fn(&Node) -> b
     Ok(None)
 }
 
-fn is_tight(certificate: &Certificate, number: u32, step: &Step) -> Result<bool, Stop> {
+fn is_tight(certificate: &Certificate, number: u64, step: &Step) -> Result<bool, Stop> {
     let [from, to] = [potential(certificate, number)?, potential(certificate, step.node)?].map(i128::from);
     Ok(to == from + certificate.weight(step.cost, step.reward))
 }
 
-fn potential(certificate: &Certificate, number: u32) -> Result<i64, Stop> {
+fn potential(certificate: &Certificate, number: u64) -> Result<i64, Stop> {
     match certificate.nodes.binary_search(&number) {
         Ok(place) => Ok(certificate.potentials[place]),
         Err(_) => Err(Stop::Difference(format!("node {number} is reached, and is not among the nodes of the plan"))),
@@ -41,7 +41,7 @@ fn potential(certificate: &Certificate, number: u32) -> Result<i64, Stop> {
 }
 
 /// Along the steps that found the nodes.
-fn codes_to(found_by: &HashMap<u32, Option<(u32, u16)>>, mut number: u32) -> Vec<u16> {
+fn codes_to(found_by: &HashMap<u64, Option<(u64, u16)>>, mut number: u64) -> Vec<u16> {
     let mut codes = Vec::new();
     while let Some((before, code)) = found_by[&number] {
         codes.push(code);

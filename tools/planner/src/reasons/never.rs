@@ -9,7 +9,7 @@ use crate::sheet::{Edge, Sheet};
 /// leave.
 pub fn why_never(sheet: &Sheet, graph: &Graph, edge: &Edge) -> String {
     let [source, target] = [edge.source, edge.target].map(|i| &sheet.locations[i].name);
-    let mut here = graph.nodes.iter().map(|number| node(*number)).filter(|node| node.location == edge.source).peekable();
+    let mut here = graph.nodes.iter().map(|number| node(sheet.edition, *number)).filter(|node| node.location == edge.source).peekable();
     if here.peek().is_none() {
         return format!("its source '{source}' is not reached");
     }

@@ -1,103 +1,33 @@
 //! From bytes to a sheet, by questions 2 to 11 and 17.
 
+use super::edition::{Edition, BOUNDS, LOWER_GUARDS};
 use super::limits;
 use super::pairs::equal_pair;
+use super::reader::Reader;
 use super::refusal::Refusal;
-use super::{Bytes, Edge, Location, Sheet};
-
-struct Reader<'a> {
-    bytes: &'a [u8],
-    at: usize,
-    /// The record that is being read, as "edge 3".
-    record: String,
-    clocks: usize,
-}
+use super::{Edge, Location, Sheet};
 
 impl Reader<'_> {
-    fn refuse<T>(&self, question: u8, at: usize, what: String, expected: impl Into<String>) -> Result<T, Refusal> {
-        let what = if self.record.is_empty() { what } else { format!("{} {what}", self.record) };
-        Err(Refusal { question, at, what, expected: expected.into() })
-    }
-
-    fn needs(&self, count: usize, what: &str) -> Result<(), Refusal> {
-        let left = self.bytes.len() - self.at;
-        if left < count {
-            return self.refuse(5, self.bytes.len(), format!("ends in {what}: bytes left {left}"), format!("{count}"));
-        }
-        Ok(())
-    }
-
-    fn byte(&mut self) -> u8 {
-        self.at += 1;
-        self.bytes[self.at - 1]
-    }
-
-    fn word(&mut self) -> u16 {
-        u16::from_le_bytes([self.byte(), self.byte()])
-    }
-
-    fn map(&mut self, width: usize, permitted: u16) -> Result<u16, Refusal> {
-        self.needs(width, "its map")?;
-        let at = self.at;
-        let map = if width == 2 { self.word() } else { u16::from(self.byte()) };
-        let wrong = map & !permitted;
-        if wrong != 0 {
-            return self.refuse(6, at, format!("has bit {} of its map set", wrong.trailing_zeros()), "only permitted bits");
-        }
-        Ok(map)
-    }
-
-    fn prices(&mut self, map: u16) -> Result<(i16, u16), Refusal> {
-        let (mut cost, mut reward) = (0, 0);
-        if map & 1 != 0 {
-            cost = self.word() as i16;
-            if cost == 0 || i64::from(cost).abs() > limits::PRICE {
-                return self.refuse(8, self.at - 2, format!("has cost {cost}"), "-10000 to 10000 and not 0");
-            }
-        }
-        if map & 2 != 0 {
-            reward = self.word();
-            if reward == 0 || i64::from(reward) > limits::PRICE {
-                return self.refuse(8, self.at - 2, format!("has reward {reward}"), "1 to 10000");
-            }
-        }
-        Ok((cost, reward))
-    }
-
-    /// A byte for each clock whose bit stands in the map, from bit `first` on.
-    fn bytes_of(&mut self, map: u16, first: usize, least: u8, what: &str) -> Result<Bytes, Refusal> {
-        let mut found = Bytes::default();
-        for (j, slot) in found.iter_mut().enumerate().take(self.clocks) {
-            if map >> (first + j) & 1 == 0 {
-                continue;
-            }
-            let byte = self.byte();
-            if !(least..=25).contains(&byte) {
-                return self.refuse(8, self.at - 1, format!("has {what} byte {byte} of clock {j}"), format!("{least} to 25"));
-            }
-            *slot = Some(byte);
-        }
-        Ok(found)
-    }
-
     fn location(&mut self, i: usize) -> Result<Location, Refusal> {
         self.record = format!("location {i}");
         let start = self.at;
-        let bounds = clock_bits(2, self.clocks);
+        let bounds = clock_bits(BOUNDS, self.clocks);
         let map = self.map(1, 3 | bounds)?;
         self.needs(field_bytes(map), "its fields")?;
         let missing = bounds & !map;
         if missing != 0 {
-            return self.refuse(7, start, format!("has no bound for clock {}", missing.trailing_zeros() - 2), "a bound for each clock");
+            let clock = missing.trailing_zeros() as usize - BOUNDS;
+            return self.refuse(7, start, format!("has no bound for clock {clock}"), "a bound for each clock");
         }
         let (cost, reward) = self.prices(map)?;
-        let upper = self.bytes_of(map, 2, 0, "upper")?;
+        let upper = self.bytes_of(map, BOUNDS, 0, "upper")?;
         Ok(Location { name: format!("l{i}"), cost, reward, upper })
     }
 
     fn edge(&mut self, i: usize, locations: usize) -> Result<Edge, Refusal> {
         self.record = format!("edge {i}");
-        let map = self.map(2, 7 | clock_bits(3, self.clocks) | clock_bits(6, self.clocks))?;
+        let upper_guards = self.edition.upper_guards();
+        let map = self.map(2, 7 | clock_bits(LOWER_GUARDS, self.clocks) | clock_bits(upper_guards, self.clocks))?;
         self.needs(2 + field_bytes(map), "its source, target and fields")?;
         let ends = self.at;
         let (source, target) = (usize::from(self.byte()), usize::from(self.byte()));
@@ -107,8 +37,8 @@ impl Reader<'_> {
         if map & 4 != 0 && (reset == 0 || reset > all) {
             return self.refuse(8, self.at - 1, format!("has reset mask {reset}"), format!("1 to {all}"));
         }
-        let lower = self.bytes_of(map, 3, 1, "lower")?;
-        let upper = self.bytes_of(map, 6, 0, "upper")?;
+        let lower = self.bytes_of(map, LOWER_GUARDS, 1, "lower")?;
+        let upper = self.bytes_of(map, upper_guards, 0, "upper")?;
         for (at, end, what) in [(ends, source, "source"), (ends + 1, target, "target")] {
             if end >= locations {
                 return self.refuse(9, at, format!("has {what} {end}"), format!("0 to {}", locations - 1));
@@ -127,25 +57,30 @@ fn field_bytes(map: u16) -> usize {
     (map.count_ones() + (map & 3).count_ones()) as usize
 }
 
-/// Questions 2 to 4: the counts of locations, clocks and edges.
-fn head(reader: &mut Reader) -> Result<(usize, usize, usize), Refusal> {
+/// Questions 2 to 4: the edition, and the counts of locations, clocks and edges.
+fn head(reader: &mut Reader) -> Result<(Edition, [usize; 3]), Refusal> {
     let length = reader.bytes.len();
     if !limits::LENGTHS.contains(&length) {
-        return reader.refuse(2, length, format!("the sheet has {length} bytes"), "4 to 580 bytes");
+        return reader.refuse(2, length, format!("the sheet has {length} bytes"), "4 to 656 bytes");
     }
-    let edition = reader.byte();
-    if edition != 1 {
-        return reader.refuse(3, 0, format!("edition {edition}"), "edition 1");
-    }
-    let counts = [("locations", 1, limits::LOCATIONS), ("clocks", 1, limits::CLOCKS), ("edges", 0, limits::EDGES)];
+    let number = reader.byte();
+    let Some(edition) = Edition::of(number) else {
+        return reader.refuse(3, 0, format!("edition {number}"), "edition 1 or 2");
+    };
+    let clocks = format!("1 to {} in edition {number}", edition.clocks());
+    let counts = [
+        ("locations", 1..=limits::LOCATIONS, "1 to 12"),
+        ("clocks", 1..=edition.clocks(), &clocks),
+        ("edges", 0..=limits::EDGES, "0 to 32"),
+    ];
     let mut found = [0; 3];
-    for (slot, (what, least, most)) in found.iter_mut().zip(counts) {
+    for (slot, (what, range, expected)) in found.iter_mut().zip(counts) {
         *slot = usize::from(reader.byte());
-        if *slot < least || most < *slot {
-            return reader.refuse(4, reader.at - 1, format!("{slot} {what}"), format!("{least} to {most}"));
+        if !range.contains(slot) {
+            return reader.refuse(4, reader.at - 1, format!("{slot} {what}"), expected);
         }
     }
-    Ok((found[0], found[1], found[2]))
+    Ok((edition, found))
 }
 
 /// Question 17; of each edge the range of its bytes.
@@ -170,10 +105,11 @@ fn admits_zero(reader: &Reader, first: &Location) -> Result<(), Refusal> {
 
 /// The sheet that the bytes hold, with names made up.
 pub fn decode(bytes: &[u8]) -> Result<Sheet, Refusal> {
-    let mut reader = Reader { bytes, at: 0, record: String::new(), clocks: 0 };
-    let (locations, clocks, edges) = head(&mut reader)?;
-    reader.clocks = clocks;
-    let mut sheet = Sheet { clocks: ["x", "y", "z"].iter().take(clocks).map(|name| name.to_string()).collect(), ..Sheet::default() };
+    let mut reader = Reader { bytes, at: 0, record: String::new(), edition: Edition::First, clocks: 0 };
+    let (edition, [locations, clocks, edges]) = head(&mut reader)?;
+    (reader.edition, reader.clocks) = (edition, clocks);
+    let names = ["x", "y", "z", "w"].iter().take(clocks).map(|name| name.to_string());
+    let mut sheet = Sheet { edition, clocks: names.collect(), ..Sheet::default() };
     for i in 0..locations {
         sheet.locations.push(reader.location(i)?);
     }

@@ -1,5 +1,6 @@
 //! From a sheet to a description.
 
+use super::edition::Edition;
 use super::{lower_words, upper_words, Edge, Location, Sheet};
 use std::fmt::Write;
 
@@ -58,8 +59,16 @@ fn edge_text(edge: &Edge, sheet: &Sheet) -> String {
     text + &prices(edge.cost, edge.reward)
 }
 
+/// The edition, where it does not follow from the clocks.
+fn edition_text(sheet: &Sheet) -> String {
+    match Edition::least_for(sheet.clocks.len()) {
+        edition if edition == sheet.edition => String::new(),
+        _ => format!("edition {}\n", sheet.edition.number()),
+    }
+}
+
 pub fn describe(sheet: &Sheet) -> String {
-    let mut text = format!("clocks {}\n", sheet.clocks.join(" "));
+    let mut text = format!("{}clocks {}\n", edition_text(sheet), sheet.clocks.join(" "));
     for location in &sheet.locations {
         text += &location_text(location, &sheet.clocks);
     }

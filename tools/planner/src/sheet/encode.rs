@@ -1,5 +1,6 @@
 //! From a sheet to its bytes.
 
+use super::edition::{Edition, BOUNDS, LOWER_GUARDS};
 use super::{Bytes, Edge, Location, Sheet};
 
 /// Bits from `first` on, for the clocks whose byte stands.
@@ -21,15 +22,16 @@ fn put_prices(out: &mut Vec<u8>, cost: i16, reward: u16) {
 }
 
 fn put_location(out: &mut Vec<u8>, location: &Location) {
-    out.push((price_bits(location.cost, location.reward) | clock_bits(&location.upper, 2)) as u8);
+    out.push((price_bits(location.cost, location.reward) | clock_bits(&location.upper, BOUNDS)) as u8);
     put_prices(out, location.cost, location.reward);
     out.extend(location.upper.iter().flatten());
 }
 
 /// The bytes of an edge's record.
-pub fn edge_record(edge: &Edge) -> Vec<u8> {
+pub fn edge_record(edition: Edition, edge: &Edge) -> Vec<u8> {
     let resets = u16::from(edge.reset != 0) << 2;
-    let map = price_bits(edge.cost, edge.reward) | resets | clock_bits(&edge.lower, 3) | clock_bits(&edge.upper, 6);
+    let guards = clock_bits(&edge.lower, LOWER_GUARDS) | clock_bits(&edge.upper, edition.upper_guards());
+    let map = price_bits(edge.cost, edge.reward) | resets | guards;
     let mut out = map.to_le_bytes().to_vec();
     out.extend([edge.source as u8, edge.target as u8]);
     put_prices(&mut out, edge.cost, edge.reward);
@@ -42,12 +44,12 @@ pub fn edge_record(edge: &Edge) -> Vec<u8> {
 }
 
 pub fn encode(sheet: &Sheet) -> Vec<u8> {
-    let mut out = vec![1, sheet.locations.len() as u8, sheet.clocks.len() as u8, sheet.edges.len() as u8];
+    let mut out = vec![sheet.edition.number(), sheet.locations.len() as u8, sheet.clocks.len() as u8, sheet.edges.len() as u8];
     for location in &sheet.locations {
         put_location(&mut out, location);
     }
     for edge in &sheet.edges {
-        out.extend(edge_record(edge));
+        out.extend(edge_record(sheet.edition, edge));
     }
     out
 }

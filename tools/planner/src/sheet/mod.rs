@@ -2,12 +2,15 @@
 
 pub mod decode;
 pub mod describe;
+pub mod edition;
 pub mod encode;
 pub mod hex;
 pub mod limits;
 pub mod pairs;
+mod reader;
 pub mod refusal;
 
+use edition::Edition;
 use limits::CLOCKS;
 
 /// A byte for each clock, where one stands.
@@ -35,6 +38,7 @@ pub struct Edge {
 
 #[derive(Clone, Debug, Default, PartialEq, Eq)]
 pub struct Sheet {
+    pub edition: Edition,
     pub clocks: Vec<String>,
     pub locations: Vec<Location>,
     pub edges: Vec<Edge>,

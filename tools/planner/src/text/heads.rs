@@ -1,9 +1,10 @@
-//! The lines that begin something: the clocks, a location, an edge.
+//! The lines that begin something: the edition, the clocks, a location, an edge.
 
 use super::cursor::Cursor;
 use super::fault::{wrong, Fault, Place};
 use super::notes::{EdgeNote, LocationNote, Named};
 use super::{Parser, Record, WORDS};
+use crate::sheet::edition::Edition;
 use crate::sheet::limits;
 use crate::sheet::{Edge, Location};
 
@@ -26,6 +27,37 @@ pub(super) fn no_comma(cursor: &mut Cursor) -> Result<(), Fault> {
 }
 
 impl Parser {
+    /// A sheet that asks for no edition has the first that its clocks find room in.
+    pub(super) fn edition(&mut self, cursor: &mut Cursor) -> Result<(), Fault> {
+        let word = cursor.place();
+        let number = cursor.number("the number of the edition, 1 or 2")?;
+        let place = cursor.place();
+        cursor.end("the edition").inspect_err(|_| self.clocks_lost |= cursor.names("clocks"))?;
+        let Some(edition) = u8::try_from(number).ok().and_then(Edition::of) else {
+            return wrong(place, format!("there is no edition {number}"), "1 or 2");
+        };
+        if let Some((_, line)) = self.edition {
+            return wrong(word, format!("the edition is given twice, first on line {line}"), "it once");
+        }
+        if !self.sheet.clocks.is_empty() {
+            return wrong(word, "the edition stands behind the clocks", "it before them");
+        }
+        self.edition = Some((edition, self.line));
+        Ok(())
+    }
+
+    fn too_many(&self, count: usize, place: Place) -> Result<(), Fault> {
+        let (most, of) = match self.edition {
+            Some((edition, _)) => (edition.clocks(), format!(" in edition {}", edition.number())),
+            None => (limits::CLOCKS, String::new()),
+        };
+        if count <= most {
+            return Ok(());
+        }
+        let fault = Fault::new(place, format!("{count} clocks"), format!("1 to {most} clocks{of}"));
+        Err(fault.meant((count <= limits::CLOCKS).then_some("edition 2")))
+    }
+
     pub(super) fn clocks(&mut self, cursor: &mut Cursor) -> Result<(), Fault> {
         let named = !std::mem::take(&mut self.sheet.clocks).is_empty();
         self.clocks_lost = true;
@@ -36,7 +68,7 @@ impl Parser {
         let (mut names, mut count): (Vec<String>, usize) = (Vec::new(), 0);
         let mut all = None;
         while count == 0 || !cursor.done() {
-            let name = plain_name(cursor, "clock", "one to three names of clocks")?;
+            let name = plain_name(cursor, "clock", "one to four names of clocks")?;
             if names.contains(&name) {
                 return wrong(cursor.place(), format!("clock '{name}' is named twice"), "different names");
             }
@@ -47,9 +79,8 @@ impl Parser {
                 names.push(name);
             }
         }
-        if count > limits::CLOCKS {
-            return wrong(all.unwrap_or_default(), format!("{count} clocks"), "1 to 3 clocks");
-        }
+        self.too_many(count, all.unwrap_or_default())?;
+        self.sheet.edition = self.edition.map_or(Edition::least_for(count), |(edition, _)| edition);
         (self.sheet.clocks, self.clocks_lost) = (names, false);
         Ok(())
     }

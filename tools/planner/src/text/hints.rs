@@ -94,6 +94,11 @@ pub fn word<'a>(spelt: &str, clocks: &'a [String]) -> Option<&'a str> {
     other.or_else(|| nearest(spelt, WORDS.into_iter().chain(clocks.iter().map(String::as_str))))
 }
 
+/// The word that a line before the clocks may be meant to begin with.
+pub fn first_word(spelt: &str) -> Option<&'static str> {
+    nearest(spelt, ["edition"].into_iter()).or(word(spelt, &[]).filter(|meant| *meant == "clocks"))
+}
+
 /// The name that is nearest, at most two slips away and by less than half of the word; the first of several. Words and names have at most
 /// 64 letters (`tokens.rs`), so that comparing them takes little.
 pub fn nearest<'a>(spelt: &str, names: impl Iterator<Item = &'a str>) -> Option<&'a str> {

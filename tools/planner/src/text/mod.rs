@@ -13,7 +13,7 @@ pub mod told;
 pub mod visible;
 mod whole;
 
-use crate::sheet::Sheet;
+use crate::sheet::{edition::Edition, Sheet};
 use cursor::Cursor;
 use fault::{Fault, Place};
 use notes::{EdgeNote, LocationNote};
@@ -48,6 +48,8 @@ enum Record {
 #[derive(Default)]
 struct Parser {
     sheet: Sheet,
+    /// The edition that is asked for, with the line.
+    edition: Option<(Edition, usize)>,
     mistakes: Vec<Mistake>,
     record: Record,
     line: usize,
@@ -103,6 +105,9 @@ impl Parser {
                 return Err(fault);
             }
         };
+        if word == "edition" && !self.is_clock(&word, cursor) {
+            return self.edition(cursor);
+        }
         if self.sheet.clocks.is_empty() && !self.clocks_lost && word != "clocks" {
             return self.early(&word, cursor);
         }
@@ -129,10 +134,15 @@ impl Parser {
 
     /// A line before the clocks. What else is wrong in it is not told.
     fn early(&mut self, word: &str, cursor: &mut Cursor) -> Result<(), Fault> {
-        let hint = hints::word(word, &[]).filter(|hint| *hint == "clocks");
+        let hint = hints::first_word(word);
         let fault = Fault::new(cursor.place(), format!("'{word}' stands before the clocks"), "a line like: clocks x y");
-        self.clocks_lost = true;
-        let _ = self.sentence(word, cursor);
+        let _ = match hint {
+            Some("edition") => self.edition(cursor),
+            _ => {
+                self.clocks_lost = true;
+                self.sentence(word, cursor)
+            }
+        };
         Err(fault.meant(hint))
     }
 

@@ -1,11 +1,11 @@
 //! What can be asked only when the whole description is read.
 
 use super::fault::Fault;
-use super::notes::Named;
+use super::notes::{EdgeNote, Named};
 use super::{hints, Mistake, Parser};
 use crate::sheet::encode::edge_record;
 use crate::sheet::limits;
-use crate::sheet::Sheet;
+use crate::sheet::{Edge, Sheet};
 
 impl Parser {
     pub(super) fn finish(mut self) -> Result<Sheet, Vec<Mistake>> {
@@ -75,8 +75,8 @@ impl Parser {
         if self.heads[1] > limits::EDGES {
             return;
         }
-        let records: Vec<_> =
-            self.sheet.edges.iter().zip(&self.edges).map(|(edge, note)| (!note.open).then(|| edge_record(edge))).collect();
+        let record = |(edge, note): (&Edge, &EdgeNote)| (!note.open).then(|| edge_record(self.sheet.edition, edge));
+        let records: Vec<_> = self.sheet.edges.iter().zip(&self.edges).map(record).collect();
         for (second, record) in records.iter().enumerate().filter(|(_, record)| record.is_some()) {
             let first = records.iter().position(|other| other == record).unwrap_or(second);
             if first < second {

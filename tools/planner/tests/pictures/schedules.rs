@@ -8,6 +8,8 @@ use tool::text::parse;
 pub const PRODUCTION: &str = include_str!("../../../../sheets/production.txt");
 pub const PRODUCTION_RUN: &str = include_str!("../../../../sheets/runs/production-least.txt");
 pub const LOADER: &str = include_str!("../../../../sheets/loader.txt");
+pub const OVENS: &str = include_str!("../../../../sheets/ovens.txt");
+pub const OVENS_RUN: &str = include_str!("../../../../sheets/runs/ovens-least.txt");
 pub const BEACON: &str = include_str!("../../../../sheets/beacon.txt");
 pub const BEACON_RUN: &str = include_str!("../../../../sheets/runs/beacon-in-tenths.txt");
 pub const BENCH: &str = include_str!("../../../../sheets/bench.txt");
@@ -74,6 +76,7 @@ pub fn all() -> Vec<(Sheet, Schedule)> {
         ),
         (parse(PRODUCTION).unwrap(), PRODUCTION_RUN.to_string()),
         (parse(BEACON).unwrap(), BEACON_RUN.to_string()),
+        (parse(OVENS).unwrap(), OVENS_RUN.to_string()),
         (parse(LOADER).unwrap(), format!("{ROUND}loop\n{ROUND}")),
         (parse(LOADER).unwrap(), format!("{ROUND}loop\n{}", ROUND.repeat(25))),
         (parse(LOADER).unwrap(), format!("{}loop\n{}", ROUND.repeat(5), ROUND.repeat(333))),

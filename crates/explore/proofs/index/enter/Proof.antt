@@ -71,14 +71,14 @@ mul-tree c = search needs
 slice-write-tree : tie.Need-slice-write-tree
 slice-write-tree c = search needs
 
-insert-requires : tie.Need-insert-requires
-insert-requires c κs = search needs
+insert-number-requires : tie.Need-insert-number-requires
+insert-number-requires c κs = search needs
 
-cast-insert : tie.Need-cast-insert
-cast-insert c = search needs
+cast-insert-place : tie.Need-cast-insert-place
+cast-insert-place c = search needs
 
-insert-requires-2 : tie.Need-insert-requires-2
-insert-requires-2 c κs = search needs
+insert-place-requires : tie.Need-insert-place-requires
+insert-place-requires c κs = search needs
 
 same-length-3 : tie.Need-same-length-3
 same-length-3 c = search needs
@@ -98,7 +98,7 @@ returns-4 c =
     let s = f .before .before .before .before .before .before .before .before .before in
     let z = f .if5 .left in
     joins _ _ _ _ _ _ _ _ (s .pre .0) (f .before .before .place .ensures) _ _ (missing (f .before)) (omega (arith, s .pre .1 .0)) (s .pre .1 .1 .0)
-    (c .before .before .before .before .before .before .insert .ensures) (c .before .before .insert2 .ensures)
+    (c .before .before .before .before .before .before .insert-number .ensures) (c .before .before .insert-place .ensures)
 
 pub enter-spec : {M : Type 1} → statement M
 enter-spec =
@@ -121,9 +121,9 @@ enter-spec =
     slice-write-nodes
     mul-tree
     slice-write-tree
-    insert-requires
-    cast-insert
-    insert-requires-2
+    insert-number-requires
+    cast-insert-place
+    insert-place-requires
     same-length-3
     same-length-4
     same-length-5

@@ -1,23 +1,18 @@
--- The mask has 32 ones, or bit 32 alone.
+-- By the test.
+use native.Mathlib.Omega.{arith}
 use borrow.Author.Needs.{needs}
-use Rattle.explore.proofs.PlaceLaws.{gap-ones, gap-zeros}
+use Rattle.explore.proofs.PlaceLaws.{times-test, times-one, times-none}
 use Rattle.explore.proofs.index.if_below.Statement.{statement}
 use Rattle.explore.proofs.index.if_below.Tie as tie
 
-add-gap : tie.Need-add-gap
-add-gap c = search needs
+cast-result : tie.Need-cast-result
+cast-result c = search needs
 
-sub-gap : tie.Need-sub-gap
-sub-gap c = search needs
-
-add-result : tie.Need-add-result
-add-result c = search needs
+mul-result : tie.Need-mul-result
+mul-result c = record { fits = omega (arith, c .fits .d, times-test (c .args .v) (c .args .x) (c .args .d)) }
 
 returns : tie.Need-returns
-returns c =
-    let v = c .fits .v .fits in
-    let x = c .fits .x .fits in
-    (gap-ones _ _ _ v x (c .pre), gap-zeros _ _ _ v x (c .pre))
+returns c = (times-one (c .args .v) (c .args .x) (c .args .d), times-none (c .args .v) (c .args .x) (c .args .d))
 
 pub if-below-spec : {M : Type 1} → statement M
-if-below-spec = tie.close (tie.spec add-gap sub-gap add-result returns)
+if-below-spec = tie.close (tie.spec cast-result mul-result returns)

@@ -7,8 +7,7 @@ use denote.Ref.{now}
 use lib.ListN.{length-set}
 use Rattle.sheet.specs.declared.Edge.{Edge}
 use Rattle.contract.proofs.Graphs.{code-below}
-use Rattle.nodes.specs.Numbers.{firstLayout}
-use Rattle.nodes.specs.Decoded.{decodedMeaning}
+use Rattle.nodes.specs.Decoded.{decodedMeaning, layoutIn}
 use Rattle.walks.specs.Walk.{at}
 use Rattle.explore.proofs.StepLaws.{start-zero, not-here}
 use Rattle.explore.proofs.CountLaws.{first, in-room, turns-fit, edge-place, edge-offset, location-offset, hint-offset}
@@ -37,7 +36,7 @@ slice-write-order c = first _ (c .before .before .before .before .before .before
 loop-holds : tie.Need-loop-holds Inv-loop μ-loop
 loop-holds c =
     let s = c .before .before .before .before .before .before .before .before .before .before .before .before in (
-      begin _ _ (entry s) (s .pre .room) (start-zero (decodedMeaning (s .args .sheet))),
+      begin _ _ (entry s) (s .pre .room) (start-zero (layoutIn (s .args .sheet)) (decodedMeaning (s .args .sheet))),
       record { nodes = refl; sorted = refl; order = refl; tree = refl; from = refl; to = refl; code = refl; cost = refl; reward = refl },
     )
 
@@ -225,7 +224,7 @@ returns-2 : tie.Need-returns-2 Inv-loop μ-loop
 returns-2 c =
     let l = c .before in
     graph-answered (S l .args .sheet) (entry (S l)) (here l) (S l .pre) _ _
-    (done _ _ _ _ _ _ _ (code-below firstLayout (decodedMeaning (S l .args .sheet))) (l .loop .inv .0) (c .loop-test .left))
+    (done _ _ _ _ _ _ _ (code-below (layoutIn (S l .args .sheet)) (decodedMeaning (S l .args .sheet))) (l .loop .inv .0) (c .loop-test .left))
     (filled _ _ (entry (S l)) _ _ _ _ (l .loop .inv .0))
 
 pub search-spec : {M : Type 1} → statement M

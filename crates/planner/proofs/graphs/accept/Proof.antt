@@ -88,8 +88,8 @@ returns c =
 add-all : tie.Need-add-all
 add-all c = omega (arith, few (c .before), S (L (c .before)) .pre .0 .formed .some)
 
-clear-u32-requires : tie.Need-clear-u32-requires
-clear-u32-requires c κs = search needs
+clear-u64-requires : tie.Need-clear-u64-requires
+clear-u64-requires c κs = search needs
 
 permute-requires : tie.Need-permute-requires
 permute-requires c κs =
@@ -141,7 +141,7 @@ abbrev left : tie.After-accepted → Buffers
 left c =
     let w = W (c .before) in
     let e = E w in
-    lentBuffers (P (e .before) .before .before .before .before .clear-u32 .last .0) (e .before .before .before .before .clear-i64 .last .0) (w .before .before .clear-u16 .last .0)
+    lentBuffers (P (e .before) .before .before .before .before .clear-u64 .last .0) (e .before .before .before .before .clear-i64 .last .0) (w .before .before .clear-u16 .last .0)
 
 written : (c : tie.After-accepted) → let v = K (P (E (W (c .before)) .before)) in let s = S (L v) in
     Written (now (s .args .least)) (now (s .args .order)) (now (s .args .code)) (arcs (L v)) (s .args .n) (v .laid .given .0 .0 + s .args .k) (lent-to s) (left c)
@@ -151,7 +151,7 @@ written c =
     let p = P (e .before) in
     let v = K p in
     let s = S (L v) in
-    let N = p .before .before .before .before .clear-u32 .ensures in
+    let N = p .before .before .before .before .clear-u64 .ensures in
     let D = e .before .before .before .before .clear-i64 .ensures in
     let C = w .before .before .clear-u16 .ensures in
     let n = s .pre .0 .formed .few in
@@ -191,7 +191,7 @@ accept-spec =
     refused-requires
     returns
     add-all
-    clear-u32-requires
+    clear-u64-requires
     permute-requires
     clear-i64-requires
     slice-aggregate-encode

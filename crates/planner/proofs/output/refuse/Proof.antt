@@ -7,8 +7,8 @@ use borrow.Author.Needs.{needs}
 use Rattle.planner.proofs.output.refuse.Statement.{statement}
 use Rattle.planner.proofs.output.refuse.Tie as tie
 
-clear-u32-requires : tie.Need-clear-u32-requires
-clear-u32-requires c κs = search needs
+clear-u64-requires : tie.Need-clear-u64-requires
+clear-u64-requires c κs = search needs
 
 clear-i64-requires : tie.Need-clear-i64-requires
 clear-i64-requires c κs = search needs
@@ -36,7 +36,7 @@ returns c =
     let s = d .before .before .before .before in (
       c .refused .ensures,
       (
-        d .clear-u32 .ensures ∙ cleared-whole 0 (now (s .args .nodes)),
+        d .clear-u64 .ensures ∙ cleared-whole 0 (now (s .args .nodes)),
         (p .clear-i64 .ensures ∙ cleared-whole (pos 0) (now (s .args .potentials)), k .clear-u16 .ensures ∙ cleared-whole 0 (now (s .args .steps))),
       ),
     )
@@ -45,7 +45,7 @@ pub refuse-spec : {M : Type 1} → statement M
 refuse-spec =
     tie.close
     (tie.spec
-    clear-u32-requires
+    clear-u64-requires
     clear-i64-requires
     clear-u16-requires
     refused-requires

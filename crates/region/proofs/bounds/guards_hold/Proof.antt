@@ -54,7 +54,7 @@ returns c =
     let t = c .before in
     let l = L t in
     let s = l .before in
-    clock-fails (asks (s .args .t2) (s .args .t3)) (s .args .t1 .whole) (s .args .t1 .class) (search needs) (search needs) (l .loop .j) (omega arith)
+    clock-fails (asks (s .args .t2) (s .args .t3)) 4 (s .args .t1 .whole) (s .args .t1 .class) (search needs) (search needs) (l .loop .j) (omega arith)
     (t .before .interval-of .ensures) (t .guard-holds .ensures)
     (s .args .clocks) (omega arith) (not-true (t .guard-holds .result) (c .if1 .taken))
 
@@ -70,7 +70,7 @@ loop-again c =
     let l = L t in
     let s = l .before in (
       search needs,
-      clock-more (asks (s .args .t2) (s .args .t3)) (s .args .t1 .whole) (s .args .t1 .class) (search needs) (search needs) (l .loop .j) (omega arith) (t .before .interval-of .ensures) (t .guard-holds .ensures)
+      clock-more (asks (s .args .t2) (s .args .t3)) 4 (s .args .t1 .whole) (s .args .t1 .class) (search needs) (search needs) (l .loop .j) (omega arith) (t .before .interval-of .ensures) (t .guard-holds .ensures)
           (l .loop .inv .1) (not-false (t .guard-holds .result) (c .if1 .left)),
     )
 

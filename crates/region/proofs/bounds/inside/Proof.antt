@@ -51,7 +51,7 @@ returns c =
     let t = c .before in
     let l = L t in
     let s = l .before in
-    clock-fails (asks (s .args .t2)) (s .args .t1 .whole) (s .args .t1 .class) (search needs) (search needs) (l .loop .j) (omega arith) (t .before .interval-of .ensures) (t .upper-holds .ensures)
+    clock-fails (asks (s .args .t2)) 4 (s .args .t1 .whole) (s .args .t1 .class) (search needs) (search needs) (l .loop .j) (omega arith) (t .before .interval-of .ensures) (t .upper-holds .ensures)
     (s .args .clocks) (omega arith) (not-true (t .upper-holds .result) (c .if1 .taken))
 
 add-j : tie.Need-add-j Inv-loop μ-loop
@@ -66,7 +66,7 @@ loop-again c =
     let l = L t in
     let s = l .before in (
       search needs,
-      clock-more (asks (s .args .t2)) (s .args .t1 .whole) (s .args .t1 .class) (search needs) (search needs) (l .loop .j) (omega arith) (t .before .interval-of .ensures) (t .upper-holds .ensures)
+      clock-more (asks (s .args .t2)) 4 (s .args .t1 .whole) (s .args .t1 .class) (search needs) (search needs) (l .loop .j) (omega arith) (t .before .interval-of .ensures) (t .upper-holds .ensures)
           (l .loop .inv .1) (not-false (t .upper-holds .result) (c .if1 .left)),
     )
 

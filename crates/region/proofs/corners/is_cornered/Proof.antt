@@ -11,7 +11,7 @@ largest-of-requires c κs = search needs
 
 rank-of-requires : tie.Need-rank-of-requires
 rank-of-requires c κs =
-    (c .before .pre, omega (arith, c .largest-of .ensures, largest-below 8 (c .before .args .class) (search needs) (c .before .pre)))
+    (c .before .pre, omega (arith, c .largest-of .ensures, largest-below 8 (c .before .args .class) (omega arith) (c .before .pre)))
 
 returns : tie.Need-returns
 returns c =

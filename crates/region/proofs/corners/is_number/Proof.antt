@@ -22,7 +22,7 @@ returns c =
     let few = c .before .before .before .few in
     let unpack = c .before .before .unpack in
     let pack = c .before .pack in
-    other-number (args .clocks) (args .location) (args .number) (few .result) (unpack .result) (few .ensures) (unpack .ensures)
+    other-number (args .edition) (args .clocks) (args .location) (args .number) (few .result) (unpack .result) (few .ensures .0) (unpack .ensures)
     (λ q. c .if1 .taken (pack .ensures ∙ q))
 
 is-cornered-requires : tie.Need-is-cornered-requires
@@ -30,7 +30,7 @@ is-cornered-requires c κs =
     let unpack = c .before .before .before .before .unpack in
     let few = c .before .before .before .before .before .few in
     let args = c .before .before .before .before .before .before .args in
-    class-of (unpack .result) (few .result) (args .number) (unpack .ensures)
+    class-of (unpack .result) (args .edition) (few .result) (args .number) (unpack .ensures)
 
 returns-2 : tie.Need-returns-2
 returns-2 c =
@@ -38,7 +38,7 @@ returns-2 c =
     let few = c .before .before .before .before .before .before .before .few in
     let unpack = c .before .before .before .before .before .before .unpack in
     let is-cornered = c .before .is-cornered in
-    no-corner (args .clocks) (args .location) (args .number) (few .result) (unpack .result) (few .ensures) (unpack .ensures)
+    no-corner (args .edition) (args .clocks) (args .location) (args .number) (few .result) (unpack .result) (few .ensures .0) (unpack .ensures)
     (sym (is-cornered .ensures) ∙ not-true (is-cornered .result) (c .if2 .taken))
 
 inside-requires : tie.Need-inside-requires
@@ -53,7 +53,7 @@ returns-3 c =
     let if1 = c .before .before .before .before .before .before .if1 in
     let is-cornered = c .before .before .before .is-cornered in
     let if2 = c .before .before .if2 in
-    c .inside .ensures ∙ there (args .clocks) (args .location) (args .number) (few .result) (unpack .result) (few .ensures) (unpack .ensures)
+    c .inside .ensures ∙ there (args .edition) (args .clocks) (args .location) (args .number) (few .result) (unpack .result) (few .ensures .0) (unpack .ensures)
     (sym (pack .ensures) ∙ if1 .left) (sym (is-cornered .ensures) ∙ not-false (is-cornered .result) (if2 .left))
 
 pub is-number-spec : {M : Type 1} → statement M

@@ -19,8 +19,13 @@ after-rise-requires : tie.Need-after-rise-requires
 after-rise-requires c κs =
     let unpack = c .before .before .before .before .before .unpack in
     let few = c .before .before .before .before .before .before .few in
-    let args = c .before .before .before .before .before .before .before .args in
-    (corner-of (unpack .result) (few .result) (args .number) (unpack .ensures), class-of (unpack .result) (few .result) (args .number) (unpack .ensures))
+    let args = c .before .before .before .before .before .before .before .args in (
+      few .ensures .1,
+      (
+        corner-of (unpack .result) (args .edition) (few .result) (args .number) (unpack .ensures),
+        class-of (unpack .result) (args .edition) (few .result) (args .number) (unpack .ensures),
+      ),
+    )
 
 land-requires : tie.Need-land-requires
 land-requires c κs = search needs
@@ -33,7 +38,7 @@ returns c =
     let after-rise = c .before .after-rise in
     let occurs-in = c .before .before .before .occurs-in in
     let if1 = c .before .before .if1 in
-    risen (args .clocks) (args .location) (args .number) (few .result) (unpack .result) (few .ensures) (unpack .ensures)
+    risen (args .edition) (args .clocks) (args .location) (args .number) (few .result) (unpack .result) (few .ensures .0) (unpack .ensures)
     (after-rise .result) (after-rise .ensures) (sym (occurs-in .ensures) ∙ if1 .taken) (c .land .result) (c .land .ensures)
 
 largest-of-requires : tie.Need-largest-of-requires
@@ -44,7 +49,7 @@ after-carry-requires c κs =
     let unpack = c .before .before .before .before .before .before .before .before .unpack in
     let few = c .before .before .before .before .before .before .before .before .before .few in
     let args = c .before .before .before .before .before .before .before .before .before .before .args in
-    whole-of (unpack .result) (few .result) (args .number) (unpack .ensures)
+    whole-of (unpack .result) (args .edition) (few .result) (args .number) (unpack .ensures)
 
 land-requires-2 : tie.Need-land-requires-2
 land-requires-2 c κs = search needs
@@ -59,7 +64,7 @@ returns-2 c =
     let occurs-in = c .before .before .before .before .before .before .occurs-in in
     let if1 = c .before .before .before .before .before .if1 in
     let if2 = c .before .before .if2 in
-    carried (args .clocks) (args .location) (args .number) (few .result) (unpack .result) (few .ensures) (unpack .ensures)
+    carried (args .edition) (args .clocks) (args .location) (args .number) (few .result) (unpack .result) (few .ensures .0) (unpack .ensures)
     (largest-of .result) (largest-of .ensures) (after-carry .result) (after-carry .ensures) (sym (occurs-in .ensures) ∙ if1 .left) (if2 .taken) (c .land2 .result) (c .land2 .ensures)
 
 not-allowed-requires : tie.Need-not-allowed-requires
@@ -74,7 +79,7 @@ returns-3 c =
     let occurs-in = c .before .before .before .before .before .occurs-in in
     let if1 = c .before .before .before .before .if1 in
     let if2 = c .before .if2 in
-    c .not-allowed .ensures ∙ stays (args .clocks) (args .location) (args .number) (few .result) (unpack .result) (few .ensures) (unpack .ensures)
+    c .not-allowed .ensures ∙ stays (args .edition) (args .clocks) (args .location) (args .number) (few .result) (unpack .result) (few .ensures .0) (unpack .ensures)
     (largest-of .result) (largest-of .ensures) (sym (occurs-in .ensures) ∙ if1 .left) (if2 .left)
 
 pub move-step-spec : {M : Type 1} → statement M

@@ -26,7 +26,7 @@ returns c =
     let unpack = c .before .before .before .before .before .unpack in
     let occurs-in = c .before .before .occurs-in in
     let if1 = c .before .if1 in
-    c .not-allowed .ensures ∙ some-whole (args .clocks) (args .location) (args .number) (few .result) (unpack .result) (few .ensures) (unpack .ensures)
+    c .not-allowed .ensures ∙ some-whole (args .edition) (args .clocks) (args .location) (args .number) (few .result) (unpack .result) (few .ensures .0) (unpack .ensures)
     (sym (occurs-in .ensures) ∙ if1 .taken)
 
 largest-of-requires : tie.Need-largest-of-requires
@@ -42,7 +42,7 @@ returns-2 c =
     let unpack = c .before .before .before .before .before .before .before .before .unpack in
     let if2 = c .before .if2 in
     let largest-of = c .before .before .before .largest-of in
-    c .not-allowed2 .ensures ∙ early (args .clocks) (args .location) (args .number) (few .result) (unpack .result) (few .ensures) (unpack .ensures)
+    c .not-allowed2 .ensures ∙ early (args .edition) (args .clocks) (args .location) (args .number) (few .result) (unpack .result) (few .ensures .0) (unpack .ensures)
     (λ q. if2 .taken (q ∙ sym (largest-of .ensures)))
 
 pack-requires : tie.Need-pack-requires
@@ -58,7 +58,7 @@ returns-3 c =
     let if2 = c .before .before .if2 in
     let largest-of = c .before .before .before .before .largest-of in
     let pack = c .before .pack in
-    turned (args .clocks) (args .location) (args .number) (few .result) (unpack .result) (few .ensures) (unpack .ensures) _
+    turned (args .edition) (args .clocks) (args .location) (args .number) (few .result) (unpack .result) (few .ensures .0) (unpack .ensures) _
     (toZ-ofZ w16 (args .location .cost) (search needs)) (sym (occurs-in .ensures) ∙ if1 .left) (if2 .left ∙ largest-of .ensures) (pack .result)
     (pack .ensures)
 

@@ -15,12 +15,12 @@ shl-result : tie.Need-shl-result
 shl-result c = search needs
 
 sub-result : tie.Need-sub-result
-sub-result c = rw (one-shl 32 (c .args .width) (omega arith)) (pow-pos (c .args .width))
+sub-result c = rw (one-shl 64 (c .args .width) (omega arith)) (pow-pos (c .args .width))
 
 cast-result : tie.Need-cast-result
 cast-result c =
     let args = c .args in
-    rw (low-bits (args .x / 2 ^ args .at) (args .width) (omega arith)) (omega (arith, low-below (args .x / 2 ^ args .at) (args .width) (omega arith)))
+    rw (low-bits (args .x / 2 ^ args .at) (args .width) (omega arith)) (omega (arith, low-below (args .x / 2 ^ args .at) (args .width) 4 (omega arith)))
 
 returns : tie.Need-returns
 returns c = low-bits (c .args .x / 2 ^ c .args .at) (c .args .width) (omega arith)

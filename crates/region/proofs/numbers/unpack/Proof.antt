@@ -1,49 +1,20 @@
--- Part by part.
-use Rattle.region.proofs.NodeLaws.{unpacked}
-use borrow.Author.Needs.{needs}
+-- By the edition.
+use mathlib.Core.Path.{sym, _∙_}
+use borrow.Author.Tests.{eq-eqb, ne-eqb}
 use Rattle.region.proofs.numbers.unpack.Statement.{statement}
 use Rattle.region.proofs.numbers.unpack.Tie as tie
 
-clock-part-requires : tie.Need-clock-part-requires
-clock-part-requires c κs = search needs
-
-clock-part-requires-2 : tie.Need-clock-part-requires-2
-clock-part-requires-2 c κs = search needs
-
-clock-part-requires-3 : tie.Need-clock-part-requires-3
-clock-part-requires-3 c κs = search needs
-
-clock-part-requires-4 : tie.Need-clock-part-requires-4
-clock-part-requires-4 c κs = search needs
-
-clock-part-requires-5 : tie.Need-clock-part-requires-5
-clock-part-requires-5 c κs = search needs
-
-clock-part-requires-6 : tie.Need-clock-part-requires-6
-clock-part-requires-6 c κs = search needs
-
-bits-requires : tie.Need-bits-requires
-bits-requires c κs = search needs
-
-bits-requires-2 : tie.Need-bits-requires-2
-bits-requires-2 c κs = search needs
+unpack-first-requires : tie.Need-unpack-first-requires
+unpack-first-requires c κs = simp (eq-eqb _ 1 (c .if1 .taken)) at (c .before .pre)
 
 returns : tie.Need-returns
-returns c =
-    let args = c .before .before .before .before .before .before .before .before .args in
-    let pre = c .before .before .before .before .before .before .before .before .pre in
-    cc (unpacked (args .clocks) (args .x) (pre))
+returns c = c .unpack-first .ensures ∙ sym (simp (eq-eqb _ 1 (c .before .if1 .taken)))
+
+unpack-second-requires : tie.Need-unpack-second-requires
+unpack-second-requires c κs = simp (ne-eqb _ 1 (c .if1 .left)) at (c .before .pre)
+
+returns-2 : tie.Need-returns-2
+returns-2 c = c .unpack-second .ensures ∙ sym (simp (ne-eqb _ 1 (c .before .if1 .left)))
 
 pub unpack-spec : {M : Type 1} → statement M
-unpack-spec =
-    tie.close
-    (tie.spec
-    clock-part-requires
-    clock-part-requires-2
-    clock-part-requires-3
-    clock-part-requires-4
-    clock-part-requires-5
-    clock-part-requires-6
-    bits-requires
-    bits-requires-2
-    returns)
+unpack-spec = tie.close (tie.spec unpack-first-requires returns unpack-second-requires returns-2)

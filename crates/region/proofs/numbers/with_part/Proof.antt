@@ -11,7 +11,7 @@ shl-result : tie.Need-shl-result
 shl-result c = search needs
 
 sub-result : tie.Need-sub-result
-sub-result c = rw (one-shl 32 (c .args .width) (omega arith)) (pow-pos (c .args .width))
+sub-result c = rw (one-shl 64 (c .args .width) (omega arith)) (pow-pos (c .args .width))
 
 shl-result-2 : tie.Need-shl-result-2
 shl-result-2 c = search needs

@@ -14,10 +14,10 @@ use Rattle.region.proofs.ranks.close_up.Statement.{statement}
 use Rattle.region.proofs.ranks.close_up.Tie as tie
 
 abbrev Inv-loop : tie.InvT-loop
-Inv-loop class digits closed₀ j₀ closed j = (j ≤ 3) × (closed ≡ filled (λ i. getD (closeUp class) i 0) 0 3 j)
+Inv-loop class digits closed₀ j₀ closed j = (j ≤ 4) × (closed ≡ filled (λ i. getD (closeUp class) i 0) 0 4 j)
 
 abbrev μ-loop : tie.MeasureT-loop
-μ-loop class digits closed₀ j₀ closed j = 3 - j
+μ-loop class digits closed₀ j₀ closed j = 4 - j
 
 rank-digits-requires : tie.Need-rank-digits-requires Inv-loop μ-loop
 rank-digits-requires c κs = c .pre
@@ -50,16 +50,16 @@ loop-again c =
     let entry = c .digit .ensures ∙ rank-at xs (digits .result) (digits .ensures) (getD xs (l .j) 0) (c .before .before .before .before .pre (l .j)) in (
       search needs,
       ap₂ (λ (zs : List ℕ) (v : ℕ). set zs (l .j) v) (l .inv .1) (entry ∙ sym (List·getD-map (rank xs) xs (l .j) 0))
-          ∙ filled-more (λ i. getD (closeUp xs) i 0) 0 3 (l .j),
+          ∙ filled-more (λ i. getD (closeUp xs) i 0) 0 4 (l .j),
     )
 
 returns : tie.Need-returns Inv-loop μ-loop
 returns c =
     let l = c .before .loop in
     let xs = c .before .before .before .args .t1 in
-    let h : length xs ≡ 3 = search needs in
-    let e : l .j ≡ 3 = omega arith in
-    l .inv .1 ∙ ap (filled (λ i. getD (closeUp xs) i 0) 0 3) e ∙ filled-whole 0 3 (closeUp xs) (length-close xs ∙ h)
+    let h : length xs ≡ 4 = search needs in
+    let e : l .j ≡ 4 = omega arith in
+    l .inv .1 ∙ ap (filled (λ i. getD (closeUp xs) i 0) 0 4) e ∙ filled-whole 0 4 (closeUp xs) (length-close xs ∙ h)
 
 pub close-up-spec : {M : Type 1} → statement M
 close-up-spec =

@@ -13,10 +13,10 @@ use Rattle.region.proofs.ranks.value_digits.Statement.{statement}
 use Rattle.region.proofs.ranks.value_digits.Tie as tie
 
 abbrev Inv-loop : tie.InvT-loop
-Inv-loop class digits₀ j₀ digits j = (j ≤ 3) × (digits ≡ valueDigits (take j class))
+Inv-loop class digits₀ j₀ digits j = (j ≤ 4) × (digits ≡ valueDigits (take j class))
 
 abbrev μ-loop : tie.MeasureT-loop
-μ-loop class digits₀ j₀ digits j = 3 - j
+μ-loop class digits₀ j₀ digits j = 4 - j
 
 loop-holds : tie.Need-loop-holds Inv-loop μ-loop
 loop-holds c = (search needs, values-none (c .args .t1))
@@ -51,7 +51,7 @@ loop-again c =
 returns : tie.Need-returns Inv-loop μ-loop
 returns c =
     let xs = c .before .before .args .t1 in
-    let h : length xs ≡ 3 = search needs in
+    let h : length xs ≡ 4 = search needs in
     c .before .loop .inv .1 ∙ ap valueDigits (take-all (c .before .loop .j) xs (search needs))
 
 pub value-digits-spec : {M : Type 1} → statement M

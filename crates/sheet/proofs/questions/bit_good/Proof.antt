@@ -1,6 +1,6 @@
 -- Clear, or as its field is.
 use mathlib.Core.Path.{sym, ap, _∙_}
-use Rattle.sheet.specs.Fields.{permittedField}
+use Rattle.sheet.specs.Fields.{editionAt, permittedField}
 use borrow.Author.Needs.{needs}
 use Rattle.sheet.proofs.CodeLaws.{bit-clear, bit-is}
 use Rattle.sheet.proofs.questions.bit_good.Statement.{statement}
@@ -12,7 +12,7 @@ bit-requires c κs = search needs
 returns : tie.Need-returns
 returns c =
     let a = c .before .before .args in
-    sym (bit-clear (a .kind) (a .clocks) (a .map) (a .b) (sym (c .before .bit .ensures) ∙ c .if1 .taken))
+    sym (bit-clear (editionAt (a .edition)) (a .kind) (a .clocks) (a .map) (a .b) (sym (c .before .bit .ensures) ∙ c .if1 .taken))
 
 field-of-requires : tie.Need-field-of-requires
 field-of-requires c κs = search needs
@@ -24,7 +24,7 @@ returns-2 : tie.Need-returns-2
 returns-2 c =
     let a = c .before .before .before .before .args in
     c .permitted .ensures ∙ ap (permittedField (a .clocks)) (c .before .field-of .ensures)
-    ∙ sym (bit-is (a .kind) (a .clocks) (a .map) (a .b) (λ z. c .before .before .if1 .left (c .before .before .before .bit .ensures ∙ z)))
+    ∙ sym (bit-is (editionAt (a .edition)) (a .kind) (a .clocks) (a .map) (a .b) (λ z. c .before .before .if1 .left (c .before .before .before .bit .ensures ∙ z)))
 
 pub bit-good-spec : {M : Type 1} → statement M
 bit-good-spec =

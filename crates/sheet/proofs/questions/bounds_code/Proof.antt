@@ -4,7 +4,7 @@ use Prim.Native.Nat.{ℕ, _+_, _-_, _≤_}
 use Rattle.sheet.specs.Maps.{bitOf, stands}
 use mathlib.Core.Bool.{true}
 use borrow.Author.Needs.{needs}
-use Rattle.sheet.specs.Fields.{firstEdition}
+use Rattle.sheet.specs.Fields.{boundBit}
 use Rattle.sheet.specs.Records.{mapOf}
 use Rattle.sheet.specs.Questions.{each, boundsCode}
 use Rattle.sheet.specs.declared.fields.Kind.the-variants.{LocationRecord}
@@ -14,7 +14,7 @@ use Rattle.sheet.proofs.questions.bounds_code.Statement.{statement}
 use Rattle.sheet.proofs.questions.bounds_code.Tie as tie
 
 abbrev Inv-loop : tie.InvT-loop
-Inv-loop s clocks at map j₀ j = (j ≤ clocks) × (each j (λ i. stands (mapOf LocationRecord s at) (firstEdition .bound + i)) ≡ true)
+Inv-loop s clocks at map j₀ j = (j ≤ clocks) × (each j (λ i. stands (mapOf LocationRecord s at) (boundBit + i)) ≡ true)
 
 abbrev μ-loop : tie.MeasureT-loop
 μ-loop s clocks at map j₀ j = clocks - j
@@ -32,7 +32,7 @@ bounds-holds : tie.Need-bounds-holds Inv-loop μ-loop Inv-bounds μ-bounds
 bounds-holds c = tt
 
 loop-holds : tie.Need-loop-holds Inv-loop μ-loop Inv-bounds μ-bounds
-loop-holds c = (search needs, each-none (λ i. stands (mapOf LocationRecord (c .before .before .before .args .s .now) (c .before .before .before .args .at)) (firstEdition .bound + i)))
+loop-holds c = (search needs, each-none (λ i. stands (mapOf LocationRecord (c .before .before .before .args .s .now) (c .before .before .before .args .at)) (boundBit + i)))
 
 add-bit : tie.Need-add-bit Inv-loop μ-loop Inv-bounds μ-bounds
 add-bit c = search needs
@@ -51,9 +51,9 @@ loop-again c =
     let a = c .before .before .before .before .before .before .before .args in
     let l = c .before .before .before .loop in (
       search needs,
-      each-more (l .j) (λ i. stands (mapOf LocationRecord (a .s .now) (a .at)) (firstEdition .bound + i)) (l .inv .1)
-          (set-bit (mapOf LocationRecord (a .s .now) (a .at)) (firstEdition .bound + l .j)
-          (λ z. c .if1 .left (c .before .bit .ensures ∙ ap (λ (m : ℕ). bitOf m (firstEdition .bound + l .j)) (c .before .before .before .before .before .map-of .ensures) ∙ z))),
+      each-more (l .j) (λ i. stands (mapOf LocationRecord (a .s .now) (a .at)) (boundBit + i)) (l .inv .1)
+          (set-bit (mapOf LocationRecord (a .s .now) (a .at)) (boundBit + l .j)
+          (λ z. c .if1 .left (c .before .bit .ensures ∙ ap (λ (m : ℕ). bitOf m (boundBit + l .j)) (c .before .before .before .before .before .map-of .ensures) ∙ z))),
     )
 
 returns : tie.Need-returns Inv-loop μ-loop Inv-bounds μ-bounds
@@ -61,15 +61,15 @@ unfolding boundsCode
 returns c =
     let a = c .before .before .before .before .before .before .before .args in
     let l = c .before .before .before .loop in
-    answer-no 7 (a .clocks) (λ i. stands (mapOf LocationRecord (a .s .now) (a .at)) (firstEdition .bound + i)) (l .j) (search needs)
-    (clear (mapOf LocationRecord (a .s .now) (a .at)) (firstEdition .bound + l .j) (sym (c .before .bit .ensures ∙ ap (λ (m : ℕ). bitOf m (firstEdition .bound + l .j)) (c .before .before .before .before .before .map-of .ensures)) ∙ c .if1 .taken))
+    answer-no 7 (a .clocks) (λ i. stands (mapOf LocationRecord (a .s .now) (a .at)) (boundBit + i)) (l .j) (search needs)
+    (clear (mapOf LocationRecord (a .s .now) (a .at)) (boundBit + l .j) (sym (c .before .bit .ensures ∙ ap (λ (m : ℕ). bitOf m (boundBit + l .j)) (c .before .before .before .before .before .map-of .ensures)) ∙ c .if1 .taken))
 
 returns-2 : tie.Need-returns-2 Inv-loop μ-loop Inv-bounds μ-bounds
 unfolding boundsCode
 returns-2 c =
     let a = c .before .before .before .before .before .args in
     let l = c .before .loop in
-    answer-yes 7 (a .clocks) (λ i. stands (mapOf LocationRecord (a .s .now) (a .at)) (firstEdition .bound + i)) (l .j) (search needs) (search needs) (l .inv .1)
+    answer-yes 7 (a .clocks) (λ i. stands (mapOf LocationRecord (a .s .now) (a .at)) (boundBit + i)) (l .j) (search needs) (search needs) (l .inv .1)
 
 pub bounds-code-spec : {M : Type 1} → statement M
 bounds-code-spec =

@@ -2,7 +2,7 @@
 use mathlib.Core.Path.{sym, ap, ap₂, _∙_}
 use Prim.Native.Nat.{ℕ}
 use Rattle.sheet.specs.Maps.{bitOf}
-use Rattle.sheet.specs.Fields.{inRange}
+use Rattle.sheet.specs.Fields.{editionAt, fieldOf, inRange}
 use Rattle.sheet.specs.Records.{valueAt}
 use borrow.Author.Needs.{needs}
 use native.Mathlib.Omega.{arith}
@@ -30,6 +30,9 @@ value-at-requires c κs =
     let a = c .before .before .before .before .before .args in
     omega (arith, c .field-place .ensures, place-bound (a .kind) (a .s .now) (a .at) (a .b))
 
+byte-requires : tie.Need-byte-requires
+byte-requires c κs = search needs
+
 field-of-requires : tie.Need-field-of-requires
 field-of-requires c κs = search needs
 
@@ -38,12 +41,12 @@ in-range-requires c κs = search needs
 
 returns-2 : tie.Need-returns-2
 returns-2 c =
-    let a = c .before .before .before .before .before .before .before .before .args in
+    let a = c .before .before .before .before .before .before .before .before .before .args in
     c .in-range .ensures
-    ∙ ap₂ (inRange (a .clocks)) (c .before .field-of .ensures)
-    (c .before .before .value-at .ensures ∙ ap (λ (p : ℕ). valueAt (a .s .now) p (a .b)) (c .before .before .before .field-place .ensures))
+    ∙ ap₂ (inRange (a .clocks)) (c .before .field-of .ensures ∙ ap (λ (e : ℕ). fieldOf (editionAt e) (a .kind) (a .b)) (c .before .before .byte .ensures))
+    (c .before .before .before .value-at .ensures ∙ ap (λ (p : ℕ). valueAt (a .s .now) p (a .b)) (c .before .before .before .before .field-place .ensures))
     ∙ sym (field-is (a .kind) (a .clocks) (a .s .now) (a .at) (a .b)
-    (λ z. c .before .before .before .before .if1 .left (c .before .before .before .before .before .bit .ensures ∙ ap (λ (m : ℕ). bitOf m (a .b)) (c .before .before .before .before .before .before .map-of .ensures) ∙ z)))
+    (λ z. c .before .before .before .before .before .if1 .left (c .before .before .before .before .before .before .bit .ensures ∙ ap (λ (m : ℕ). bitOf m (a .b)) (c .before .before .before .before .before .before .before .map-of .ensures) ∙ z)))
 
 pub field-good-spec : {M : Type 1} → statement M
 field-good-spec =
@@ -54,6 +57,7 @@ field-good-spec =
     returns
     field-place-requires
     value-at-requires
+    byte-requires
     field-of-requires
     in-range-requires
     returns-2)

@@ -5,7 +5,7 @@ use borrow.Author.Needs.{needs}
 use borrow.Author.Tests.{not-true, not-false}
 use Rattle.nodes.specs.Decoded.{decodedMeaning}
 use Rattle.schedules.specs.Closed.{guardsClosed, isClosed}
-use Rattle.work.proofs.ClosedSheet.{bounds-are, guards-are}
+use Rattle.work.proofs.ClosedSheet.{few-clocks, bounds-are, guards-are}
 use Rattle.work.proofs.closed.is_closed.Statement.{statement}
 use Rattle.work.proofs.closed.is_closed.Tie as tie
 
@@ -16,7 +16,7 @@ cast-bounds-closed : tie.Need-cast-bounds-closed
 cast-bounds-closed c = search needs
 
 bounds-closed-requires : tie.Need-bounds-closed-requires
-bounds-closed-requires c κs = search needs
+bounds-closed-requires c κs = let s = c .before .before .before in (s .pre .locations-in .1, few-clocks (s .args .read) (s .pre))
 
 returns : tie.Need-returns
 unfolding isClosed
@@ -29,7 +29,7 @@ cast-guards-closed : tie.Need-cast-guards-closed
 cast-guards-closed c = search needs
 
 guards-closed-requires : tie.Need-guards-closed-requires
-guards-closed-requires c κs = search needs
+guards-closed-requires c κs = let s = c .before .before .before .before .before .before .before in (s .pre .edges-in, few-clocks (s .args .read) (s .pre))
 
 returns-2 : tie.Need-returns-2
 unfolding isClosed

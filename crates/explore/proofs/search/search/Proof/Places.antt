@@ -126,6 +126,7 @@ module _ (c : tie.After-step-at Inv-loop μ-loop) where
       let inside = subst (λ (n : ℕ). p .result < n) (sym (b .ensures .0)) (p .ensures .0) in
       let location-is = any-default (b .result) (p .result) _ blankLocation inside ∙ b .ensures .1 (p .result) (p .ensures .0) in
       c .step-at .ensures sheet (record {
+        edition-is = refl;
         clocks-are = refl;
         edges-are = refl;
         edge-is = record-is (R c) _;

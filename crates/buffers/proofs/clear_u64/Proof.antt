@@ -5,8 +5,8 @@ use native.Mathlib.Omega.{arith}
 use lib.ListN.{length, length-set}
 use Rattle.buffers.specs.Cleared.{cleared}
 use Rattle.buffers.proofs.ClearedLaws.{clear-more, clear-none}
-use Rattle.buffers.proofs.clear_u32.Statement.{statement}
-use Rattle.buffers.proofs.clear_u32.Tie as tie
+use Rattle.buffers.proofs.clear_u64.Statement.{statement}
+use Rattle.buffers.proofs.clear_u64.Tie as tie
 
 abbrev Inv-loop : tie.InvT-loop
 Inv-loop list₀ from i₀ list i = (length list ≡ length list₀) × (cleared 0 list i ≡ cleared 0 list₀ from)
@@ -42,5 +42,5 @@ returns c =
     let l = c .before .loop in
     sym (clear-none 0 (l .list) (l .i) (omega arith)) ∙ l .inv .1
 
-pub clear-u32-spec : {M : Type 1} → statement M
-clear-u32-spec = tie.close (tie.spec Inv-loop μ-loop loop-holds mul-list slice-write-list add-i loop-less loop-again same-length returns)
+pub clear-u64-spec : {M : Type 1} → statement M
+clear-u64-spec = tie.close (tie.spec Inv-loop μ-loop loop-holds mul-list slice-write-list add-i loop-less loop-again same-length returns)

@@ -1,8 +1,8 @@
 -- From i on, all has moved up.
 use borrow.Author.Needs.{needs}
 use Rattle.explore.proofs.PlaceLaws.{Shifted, shift-start, shift-one, shift-end}
-use Rattle.explore.proofs.index.insert.Statement.{statement}
-use Rattle.explore.proofs.index.insert.Tie as tie
+use Rattle.explore.proofs.index.insert_place.Statement.{statement}
+use Rattle.explore.proofs.index.insert_place.Tie as tie
 
 abbrev Inv-loop : tie.InvT-loop
 Inv-loop list₀ n p x i₀ list i = Shifted list₀ list n p i
@@ -49,8 +49,8 @@ same-length c = search needs
 returns : tie.Need-returns Inv-loop μ-loop
 returns c = shift-end _ _ _ _ _ _ (c .before .before .pre .0) (c .loop-test .left) (c .before .loop .inv)
 
-pub insert-spec : {M : Type 1} → statement M
-insert-spec =
+pub insert-place-spec : {M : Type 1} → statement M
+insert-place-spec =
     tie.close
     (tie.spec
     Inv-loop
