@@ -1,5 +1,5 @@
 // An edge, taken from a node of edition 1. Edition 2 has the same with its own numbers, in second_edges.rt: with the edition as a variable a step, on
-// which a plan with many arcs spends a third of its time, took half as long again.
+// which a plan with many arcs spends a third of its time, took longer (docs/DECISIONS.md).
 ghost use mathlib.Core.Path.{_≡_};
 ghost use Rattle.nodes.specs.Numbers.{firstLayout, stepBy};
 ghost use Rattle.nodes.specs.Decoded.{alone};
