@@ -54,7 +54,7 @@ static uint8_t plan(const uint8_t *sheet, size_t length, size_t entries) {
     return planner_plan(sheet, length, nodes, entries, potentials, LONGER, steps, LONGER, &p, &q, &n, &s, &m, &units, &cost, &reward);
 }
 
-/* Whether all three buffers hold the entry, but for so many at their front. */
+/* Whether all three buffers hold the entry, but for a given number of entries at their front. */
 static int hold(uint64_t entry, size_t node_count, size_t step_count) {
     for (size_t i = 0; i < LONGER; i++) {
         if (i >= node_count && (nodes[i] != entry || potentials[i] != (int64_t)entry)) return 0;
@@ -135,7 +135,7 @@ static uint8_t work(const uint8_t *sheet, size_t length, size_t wait_entries, si
     return planner_work(sheet, length, waits, wait_entries, edges, edge_entries, &stem, &cycle);
 }
 
-/* Whether both buffers hold the entry, but for so many at their front. */
+/* Whether both buffers hold the entry, but for a given number of entries at their front. */
 static int pairs_hold(uint16_t entry, size_t count) {
     for (size_t i = count; i < LONGER; i++)
         if (waits[i] != entry || edges[i] != entry) return 0;

@@ -34,7 +34,7 @@ Made make_too_long(const Kind &kind, unsigned nodes);
 // The paper's sheet of eighteen bytes.
 Made make_bench();
 
-// The longest sheet with so many clocks: every field stands, with these bytes for bounds and guards, and all edges are equal.
+// The longest sheet with a given number of clocks: it has every field, with these bytes for bounds and guards, and all edges are equal.
 struct Longest {
     static constexpr size_t locations = 12, edges = 32;
     std::vector<uint8_t> bytes;
@@ -44,5 +44,5 @@ struct Longest {
     uint8_t *edge(size_t place) { return bytes.data() + bytes.size() - (edges - place) * edge_bytes; }
 };
 
-// The longest sheet with so many clocks, with no strict bound or guard and 4 nodes: much of the time of its plan goes to reading it.
+// The longest sheet with a given number of clocks, with no strict bound or guard and 4 nodes: much of the time of its plan goes to reading it.
 Made make_longest(int clocks);

@@ -5,7 +5,7 @@
 
 namespace {
 
-constexpr Ratio above_all{1, 0}; // just the cycles that earn weigh less than 0
+constexpr Ratio above_all{1, 0}; // exactly the cycles that earn weigh less than 0
 
 // Boost's cycle and its ratio, where it names one that earns.
 Ratio first_ratio(const Graph &graph, std::vector<uint32_t> &cycle) {

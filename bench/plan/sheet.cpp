@@ -40,7 +40,7 @@ bool read_prices(Reader &r, int map, int &cost, int &reward) {
     return good;
 }
 
-// A byte for each clock whose bit stands, from the map's bit `first` on.
+// A byte for each clock whose bit is set, from the map's bit `first` on.
 bool read_bytes(Reader &r, int map, int first, int least, int clocks, Clocks &values) {
     bool good = true;
     for (int j = 0; j < clocks; j++) {

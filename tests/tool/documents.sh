@@ -52,3 +52,18 @@ whole sheets/README.md finds.txt
 awk '/^## The format/ { found = 1 } found && /^```/ { if (inside) exit; inside = 1; next } inside' sheets/README.md >"$work/format.txt"
 ends "sheets/README.md: the format" 0 planner check "$work/format.txt"
 holds "sheets/README.md: the format" "$(cat "$work/out")" "1 location, 1 clock, 1 edge"
+
+# each file of a crate that a document names is there, and what it names in it: `crate/specs/File.antt: name, name`
+named=0
+while IFS= read -r citation; do
+  named=$((named + 1))
+  file=crates/${citation%%: *}
+  [ -e "$file" ] || { fail "the documents name $file, which is not there"; continue; }
+  [ "$citation" != "${citation%%: *}" ] || continue
+  IFS=, read -ra names <<<"${citation#*: }"
+  for name in "${names[@]}"; do
+    grep -qE "(^|[^[:alnum:]_·-])${name# }([^[:alnum:]_·-]|$)" "$file" || fail "the documents name ${name# } in $file, which has none"
+  done
+done < <(cat README.md docs/*.md | grep -oE '`[a-z_]+/(specs|proofs|src|must-fail)/[A-Za-z0-9_/.]+(: [^`]+)?`' | tr -d '`' | sort -u)
+checks=$((checks + named))
+[ "$named" -gt 100 ] || fail "only $named names of the crates in the documents"

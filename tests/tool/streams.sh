@@ -23,12 +23,14 @@ for option in --svg --certificate; do
     expect "no room, $option $name" "$(cat "$work/kept")" before
     expect "no room, $option $name: files left" "$(ls -A "$work" | grep -c part || true)" 0
   done
-  # a pipe is written to as it is
+  # a pipe is written to as it is; it is open both ways meanwhile, so that nobody waits for the other end
   mkfifo "$work/pipe"
-  cat "$work/pipe" >"$work/piped" &
-  ends "a pipe, $option" 0 timeout 10 planner plan sheets/bench.txt $option "$work/pipe"
-  wait
+  exec 8<>"$work/pipe"
+  ends "a pipe, $option" 0 planner plan sheets/bench.txt $option "$work/pipe"
   [ -p "$work/pipe" ] || fail "a pipe, $option: it is none any more"
+  exec 9<"$work/pipe" 8>&-
+  cat <&9 >"$work/piped"
+  exec 9<&-
   planner plan sheets/bench.txt $option "$work/plain" >/dev/null
   cmp -s "$work/plain" "$work/piped" || fail "a pipe, $option: other bytes"
   rm "$work/pipe"
@@ -47,8 +49,7 @@ cmp -s "$work/plain" "$work/piped" || fail "a pipe by its descriptor: other byte
 
 # a closed pipe ends the tool quietly; the reader has gone when the tool begins
 for command in "plan sheets/bench.txt" "batch sheets"; do
-  { sleep 0.5; status=0; planner $command 2>"$work/err" || status=$?; echo $status >"$work/status"; } | true
-  expect "a closed pipe, $command: exit status" "$(cat "$work/status")" 4
+  ends "a closed pipe, $command" 4 bash -c "exec 9> >(true); wait \$!; planner $command >&9"
   expect "a closed pipe, $command" "$(cat "$work/err")" ""
 done
 
@@ -56,7 +57,14 @@ done
 ends "a long input" 4 bash -c 'yes "# a comment" | head -c 3000000 | planner plan -'
 expect "a long input" "$(cat "$work/err")" "standard input: is longer than 1 MB, and was not read further"
 ends "an endless input" 4 bash -c 'planner check - </dev/zero'
-ends "no more is read than that" 4 bash -c '{ head -c 1000001 /dev/zero; sleep 5; } | timeout 3 planner check -; exit ${PIPESTATUS[1]}'
+# nor is more waited for: the pipe stays open until the tool has ended
+mkfifo "$work/open"
+exec 8<>"$work/open"
+head -c 1000001 /dev/zero >"$work/open" 8>&- &
+ends "a long input that stays open" 4 planner check - <"$work/open"
+expect "a long input that stays open" "$(cat "$work/err")" "standard input: is longer than 1 MB, and was not read further"
+exec 8>&-
+wait
 head -c 1000000 /dev/zero | tr '\0' '#' >"$work/comment.txt"
 ends "1 MB" 3 planner check "$work/comment.txt"
 

@@ -35,10 +35,10 @@ pub use work::{Pairs, WorkPlan, WorkPlanner};
 /// The bytes of the longest sheet; a longer one is refused with 2.
 pub const LONGEST_SHEET: usize = 656;
 
-/// The entries that each buffer of a plan has at least; so many nodes are reachable at most.
+/// The least entries that each buffer of a plan has, and the most nodes that are reachable.
 pub const LEAST_ENTRIES: usize = 2048;
 
-/// The entries that each buffer of a work plan has at least; so many pairs it has at most.
+/// The least entries that each buffer of a work plan has, and the most pairs of one.
 pub const LEAST_PAIRS: usize = 2049;
 
 /// The code of one unit of delay. Codes 0 to 31 are the edges of the sheet.

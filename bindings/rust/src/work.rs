@@ -10,7 +10,7 @@ pub struct WorkPlanner {
     edges: Box<[u16]>,
 }
 
-/// Pairs to be worked off in their order: wait so many whole units, then take the edge.
+/// Pairs to be worked off in their order: wait a given number of whole units, then take the edge.
 #[derive(Clone, Copy, Debug, PartialEq, Eq)]
 pub struct Pairs<'a> {
     /// The whole units to wait.

@@ -1,4 +1,4 @@
--- A byte holds in the interval of a value in nths just where it holds of the value.
+-- A byte holds in the interval of a value in nths if and only if it holds of the value.
 use mathlib.Core.Path.{_≡_, refl, sym, ap, _∙_}
 use mathlib.Core.Bool.{Bool, true, false, cond, not}
 use mathlib.Core.Option.{Option, none, some}
@@ -20,7 +20,7 @@ upper-nths n u v = by-bool (eqb (u % 2) 0)
     (λ t. lt-ltb v (u / 2 * n + u % 2) (omega (arith, leb-true v (u / 2 * n) t)))
     (λ t. le-leb v (u / 2 * n) (omega (arith, ltb-true v (u / 2 * n + u % 2) t)))))
 
--- a lower byte holds just where an upper byte of the same number does not
+-- a lower byte holds if and only if an upper byte of the same number does not
 opposite : (n u v : ℕ) → lowerHoldsNths n u v ≡ not (upperHoldsNths n u v)
 opposite n u v = go (eqb (u % 2) 0)
   where

@@ -18,7 +18,7 @@ use Rattle.automaton.proofs.Lists.{Each, each-nil, each-cons, map-same}
 use Rattle.automaton.proofs.Ranks.{rank-zero, rank-grows}
 use Rattle.automaton.proofs.Largest.{occurs-le, le-largest, largest-close, rank-length}
 
--- ---- each rank is used just where closing up changes nothing
+-- ---- each rank is used if and only if closing up changes nothing
 
 pub closed-of-used : (ks : List ℕ) → usesEachRank ks ≡ true → closeUp ks ≡ ks
 unfolding closeUp

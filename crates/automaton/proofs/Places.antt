@@ -34,7 +34,7 @@ comes-back A n members i j h a b ea eb same = (
   record {
     i = i;
     j = j;
-    order = h;
+    ordered = h;
     first = a;
     last = b;
     place-i = ea;

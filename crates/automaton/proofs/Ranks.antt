@@ -47,13 +47,13 @@ rank-eqb xs a b ma mb = by-order a b
     (λ e. eq-eqb (rank xs a) (rank xs b) (ap (rank xs) e) ∙ sym (eq-eqb a b e))
     (λ h. let l = rank-lt xs b a h ma in ne-eqb (rank xs a) (rank xs b) (λ e. omega arith) ∙ sym (ne-eqb a b (λ e. omega arith)))
 
--- ranks keep the order: a number is below an entry just where its rank is below the entry's
+-- ranks keep the order: a number is below an entry if and only if its rank is below the entry's
 pub rank-ltb : (xs : List ℕ) (i k : ℕ) → occurs k xs ≡ true → ltb (rank xs i) (rank xs k) ≡ ltb i k
 rank-ltb xs i k m = by-bool (ltb i k)
     (λ e. lt-ltb (rank xs i) (rank xs k) (rank-lt xs i k (ltb-true i k e) (occurs-tail k 0 xs m)) ∙ sym e)
     (λ e. le-ltb (rank xs i) (rank xs k) (rank-mono xs k i (ltb-false i k e)) ∙ sym e)
 
--- the class of an entry is 0 just where the entry is
+-- the class of an entry is 0 if and only if the entry is
 pub rank-whole : (xs : List ℕ) (x : ℕ) → occurs x xs ≡ true → eqb (rank xs x) 0 ≡ eqb x 0
 rank-whole xs x m = ap (eqb (rank xs x)) (sym (rank-zero xs)) ∙ rank-eqb xs x 0 (occurs-tail x 0 xs m) (occurs-here 0 0 xs refl)
 

@@ -22,7 +22,7 @@ place A n members i = run A n (startState A) (take i members)
 pub record Loop (A : Automaton) (n : ℕ) (members : List Member) (c : ℤ) (r : ℕ) : Type 0 where
   pub i : ℕ
   pub j : ℕ
-  pub order : i ≤ j
+  pub ordered : i ≤ j
   pub first : Priced State
   pub last : Priced State
   pub place-i : place A n members i ≡ some first

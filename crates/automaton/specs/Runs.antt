@@ -17,7 +17,7 @@ pub record State : Type 0 where
   pub location : ℕ
   pub values : List ℕ
 
--- a member of a run: a delay of so many nths, or an edge by its number
+-- a member of a run: a delay in nths, or an edge by its number
 pub data Member : Type 0 where
   delay : ℕ → Member
   edge : ℕ → Member

@@ -10,7 +10,7 @@ mod text;
 fn check_case(line: &[u8]) {
     let mut bytes = [0u8; 704];
     let n = text::unhex(line, 6, &mut bytes);
-    let refusal = sheet::check(&bytes[..n]);
+    let refusal = reader::check(&bytes[..n]);
     io::print_decimal(STDOUT_FILENO, refusal as u64);
     let name = 6 + 2 * n;
     if name <= line.len() {

@@ -22,12 +22,13 @@ use Rattle.contract.specs.Accepted.{NodeList}
 use Rattle.contract.specs.Plan as Plan
 use Rattle.contract.specs.Plan.{Answer, Buffers, LongEnough, SameLengths, stepOn, startOf, faulty, explored, Planned}
 use Rattle.contract.specs.Answers.{Says, accepts, refuses, AcceptedAs, RefusedAs, Holds, Given}
-use Rattle.contract.specs.Certificate.{Certificate, indexOf, earns, gainsIdle, hasRatio, holdsAll, isLasso, showsAccepted}
-use Rattle.contract.specs.Certificate.{showsNoneEarns, showsIdleGain, showsRefused, certifies}
+use Rattle.contract.specs.Rules.{indexOf, earns, hasRatio, holdsAll, isLasso}
+use Rattle.contract.specs.Certificate.{Certificate, gainsIdle, showsAccepted, showsNoneEarns, showsIdleGain, showsRefused, certifies}
 use Rattle.contract.proofs.Graphs.{code-below}
 use Rattle.contract.proofs.Feasible.{none-earning, no-idle-gain}
-use Rattle.contract.proofs.Tests as Tests
-use Rattle.contract.proofs.Tests.{Closed, or-cases, all-at, lowest-is, equal}
+use Rattle.contract.proofs.Rules as Rules
+use Rattle.contract.proofs.Rules.{Closed, or-cases, all-at, lowest-is, equal}
+use Rattle.contract.proofs.PassedNodes.{node-list}
 use Rattle.contract.proofs.JustWhen.{refusal-unique}
 use Rattle.contract.proofs.Rising.{same-count}
 
@@ -38,7 +39,7 @@ module _ (bytes : List ℕ) where
   -- a lasso whose cycle is as tested
   lasso : (t : ℤ → ℕ → Bool) (stem cycle : List ℕ) → isLasso (stepOn bytes) (startOf bytes) t stem cycle ≡ true
       → Closed (stepOn bytes) (startOf bytes) codes t
-  lasso = Tests.lasso (stepOn bytes) (startOf bytes) codes
+  lasso = Rules.lasso (stepOn bytes) (startOf bytes) codes
 
   earning : (t : ℤ → ℕ → Bool) (o : Closed (stepOn bytes) (startOf bytes) codes t) → 0 < o .reward → EarningCycle (stepOn bytes) (startOf bytes)
   earning t o h = record { cost = o .cost; reward = o .reward; cycle = o .cycle; earns = h }
@@ -52,24 +53,24 @@ module _ (bytes : List ℕ) where
       let all = all-at _ h 0 (omega arith) in
       let lowest = lowest-is p q (all-at _ h 3 (omega arith)) in
       let π : ℕ → ℤ = λ z. atℤ (c .potentials) (indexOf (c .nodes) z) in
-      let feasible = Tests.feasible step start codes (c .nodes) all p q (c .potentials) (all-at _ h 4 (omega arith)) in
+      let feasible = Rules.feasible step start codes (c .nodes) all p q (c .potentials) (all-at _ h 4 (omega arith)) in
       let o = lasso (hasRatio p q) (c .stem) (c .cycle) (all-at _ h 5 (omega arith)) in
       let earned : 0 < o .reward = ltb-true 0 (o .reward) (all-at _ (o .passes) 0 (omega arith)) in
       record {
-        judged = λ b l. explored l ok (all-yes refl (Tests.not-many step start codes (c .nodes) all) (earning (hasRatio p q) o earned)
+        judged = λ b l. explored l ok (all-yes refl (Rules.not-many step start codes (c .nodes) all) (earning (hasRatio p q) o earned)
             (no-idle-gain step start p q (lowest .positive) π feasible));
         ratio = least-ratio step start p q π feasible lowest (o .cost) (o .reward) (o .cycle) earned
             (equal (pos q *ℤ o .cost) (p *ℤ pos (o .reward)) (all-at _ (o .passes) 1 (omega arith)) (all-at _ (o .passes) 2 (omega arith)));
         nodes = c .nodes;
         node-list = subst (λ (k : ℕ). NodeList step start k (c .nodes)) (eqb-true (length (c .nodes)) n (all-at _ h 1 (omega arith)))
-            (Tests.node-list step start codes (c .nodes) all (c .walks) (all-at _ h 2 (omega arith)));
+            (node-list step start codes (c .nodes) all (c .walks) (all-at _ h 2 (omega arith)));
       }
 
   no-earning : (c : Certificate) → holdsAll (stepOn bytes) (startOf bytes) (c .nodes) ≡ true → showsNoneEarns (stepOn bytes) (startOf bytes) c ≡ true
       → ¬ EarningCycle (stepOn bytes) (startOf bytes)
   unfolding showsNoneEarns
   no-earning c all h = none-earning (stepOn bytes) (startOf bytes) (λ z. atℤ (c .potentials) (indexOf (c .nodes) z))
-      (Tests.feasible (stepOn bytes) (startOf bytes) codes (c .nodes) all (pos 1) 0 (c .potentials) h)
+      (Rules.feasible (stepOn bytes) (startOf bytes) codes (c .nodes) all (pos 1) 0 (c .potentials) h)
 
   gaining : (c : Certificate) → showsIdleGain (stepOn bytes) (startOf bytes) c ≡ true
       → EarningCycle (stepOn bytes) (startOf bytes) × IdleGain (stepOn bytes) (startOf bytes)
@@ -94,7 +95,7 @@ module _ (bytes : List ℕ) where
       let all = all-at _ h 0 (omega arith) in
       let none = showsNoneEarns step start c in
       let gain = showsIdleGain step start c in
-      let few = Tests.not-many step start codes (c .nodes) all in
+      let few = Rules.not-many step start codes (c .nodes) all in
       or-cases (eqb r 13 && none) (eqb r 14 && gain) (all-at _ h 1 (omega arith))
       (λ t. let e : r ≡ 13 = eqb-true r 13 (&&-left (eqb r 13) none t) in
       record { some-number = omega arith; judged = λ b l. explored l ok (none-earns e few (no-earning c all (&&-right (eqb r 13) none t))) })

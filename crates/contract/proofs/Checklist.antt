@@ -15,7 +15,7 @@ use Rattle.contract.specs.Plan.{Buffers, LongEnough, SameLengths, stepOn
 use Rattle.contract.specs.Explored.{Found, Explored}
 pub use Rattle.contract.specs.Explored.{Sorted}
 
--- the weights at the ratio p/q, coefficients q, −p and 0: a cycle is negative just where its ratio is below
+-- the weights at the ratio p/q, coefficients q, −p and 0: a cycle is negative if and only if its ratio is below
 abbrev pub weightAt : ℤ → ℕ → Found → ℕ → ℤ
 weightAt p q g = weightOf (pos q) (negℤ p) (pos 0) (g .cost) (g .reward)
 

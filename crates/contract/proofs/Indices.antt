@@ -9,7 +9,7 @@ use lib.Dec.{eqb}
 use lib.ListN.{length}
 use Rattle.automaton.proofs.Tests.{by-bool}
 use Rattle.walks.specs.Walk.{at}
-use Rattle.contract.specs.Certificate.{indexOf}
+use Rattle.contract.specs.Rules.{indexOf}
 
 -- where x stands at i, its first place is no later, and x stands there
 pub record First (l : List ℕ) (x i : ℕ) : Type 0 where

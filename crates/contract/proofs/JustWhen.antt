@@ -1,4 +1,4 @@
--- Each number stands just where its own case does: the cases of a verdict, and of all questions, exclude each other.
+-- Each number is told if and only if its own case holds: the cases of a verdict, and of all questions, exclude each other.
 use mathlib.Core.Path.{_≡_, refl, sym, ap, _∙_}
 use mathlib.Core.Logic.{_≢_}
 use mathlib.Core.Bool.{Bool, true, false, not, _||_}

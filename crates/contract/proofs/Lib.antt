@@ -16,8 +16,12 @@ pub mod Causes
 pub mod Rising
 pub mod Unique
 pub mod CycleSums
-pub mod Tests
+pub mod Rules
+pub mod PassedNodes
 pub mod Certificates
-pub mod ChangesHold
+pub mod BenchTableHolds
+pub mod LassoKept
+pub mod TriedWalks
+pub mod BenchLassos
 pub mod OnNodes
 pub mod IdleLoops

@@ -14,7 +14,7 @@ use Rattle.automaton.proofs.Potentials.{least-feasible, least-start}
 use Rattle.walks.specs.Walk.{at, atℤ}
 use Rattle.contract.specs.Accepted.{Listed, PotentialList}
 use Rattle.contract.specs.Smallest.{smallestPotential}
-use Rattle.contract.specs.Certificate.{indexOf}
+use Rattle.contract.specs.Rules.{indexOf}
 use Rattle.contract.proofs.Indices.{First, first-at}
 use Rattle.contract.proofs.Smallest.{smallest-entry-below}
 

@@ -6,5 +6,6 @@ pub mod Conditions
 pub mod OnNodes
 pub mod Explored
 pub mod Answers
+pub mod Rules
 pub mod Certificate
-pub mod Changes
+pub mod BenchTable

@@ -28,7 +28,7 @@ module _ (step : ℕ → ℕ → Option (Priced ℕ)) (start : ℕ) where
     pub gains : cost <ℤ pos 0
 
   -- "Reading stops at the first question answered no, with that number", and with 0 where each is answered yes. No two cases hold together,
-  -- so each number stands just where its own case does.
+  -- so each number is told if and only if its own case holds.
   pub data Verdict (refusal : ℕ) : Type 0 where
     too-many : refusal ≡ 12 → TooMany → Verdict refusal
     none-earns : refusal ≡ 13 → ¬ TooMany → ¬ EarningCycle → Verdict refusal

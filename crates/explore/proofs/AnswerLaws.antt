@@ -8,7 +8,10 @@ use Rattle.contract.proofs.Arcs.{listed}
 use Rattle.explore.specs.Buffers.{GraphBuffers, found}
 use Rattle.explore.specs.Explorable.{Explorable}
 use Rattle.explore.specs.Answer.{Filled, Stopped, answered-no, answered-yes, ExploreAnswered}
-use Rattle.explore.specs.declared.Outcome.the-variants.{TooMany, Graph}
+use Rattle.explore.specs.declared.Outcome.the-variants.{Malformed, TooMany, Graph}
+
+pub malformed-answered : (s : Sheet) (b : GraphBuffers) → (Explorable s b → ⊥) → ExploreAnswered s b b Malformed
+malformed-answered s b n = (n, refl)
 
 module _ (s : Sheet) (before after : GraphBuffers) (w : Explorable s before) where
   pub too-many-answered : Stopped (stepRead s) (startRead s) before after → ExploreAnswered s before after TooMany

@@ -7,7 +7,8 @@ use native.Mathlib.Decide.{ℕ-discrete, decLt}
 use lib.ListN.{length, set}
 use lib.Seq.{getD-set-same, getD-set-other}
 use Rattle.walks.specs.Walk.{at}
-use Rattle.explore.specs.Index.{Place, Inserted, Stands, Index, Entered}
+use Rattle.rising.specs.Place.{Place}
+use Rattle.explore.specs.Index.{Inserted, Stands, Index, Entered}
 
 -- ---- the index
 pub one : (N K I : List ℕ) → at K 0 ≡ at N 0 → at I 0 ≡ 0 → Index N K I 1

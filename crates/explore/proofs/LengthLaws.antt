@@ -1,5 +1,5 @@
 -- What the first test says of the lengths of the buffers; and that they stay.
-use mathlib.Core.Path.{_≡_}
+use mathlib.Core.Path.{_≡_, sym, _∙_}
 use mathlib.Core.Bool.{Bool, true, false, _&&_}
 use Prim.Native.Nat.{ℕ, _≤_}
 use native.Mathlib.Omega.{arith}
@@ -26,8 +26,9 @@ abbrev fits : GraphBuffers → Bool
 fits b = eachAtLeast 2048 (length (b .node)) (length (b .sorted)) (length (b .order)) (length (b .tree))
     && (eachAtLeast 69632 (length (b .from)) (length (b .to)) (length (b .code)) (length (b .cost)) && leb 69632 (length (b .reward)))
 
-pub long-of : (b : GraphBuffers) → fits b ≡ true → HasRoom b
-long-of b e =
+pub long-of : (b : GraphBuffers) (t : Bool) → t ≡ fits b → t ≡ true → HasRoom b
+long-of b t d y =
+    let e : fits b ≡ true = sym d ∙ y in
     let n = eachAtLeast 2048 (length (b .node)) (length (b .sorted)) (length (b .order)) (length (b .tree)) in
     let m = eachAtLeast 69632 (length (b .from)) (length (b .to)) (length (b .code)) (length (b .cost)) in
     let r = leb 69632 (length (b .reward)) in
@@ -46,8 +47,9 @@ long-of b e =
       reward = leb-true 69632 (length (b .reward)) (&&-right m r f);
     }
 
-pub not-long : (b : GraphBuffers) → fits b ≡ false → HasRoom b → ⊥
-not-long b e g =
+pub not-long : (b : GraphBuffers) (t : Bool) → t ≡ fits b → t ≡ false → HasRoom b → ⊥
+not-long b t d f g =
+    let e : fits b ≡ false = sym d ∙ f in
     let z : fits b ≡ true = simp (
       each-is 2048 (length (b .node)) (length (b .sorted)) (length (b .order)) (length (b .tree)) (g .node) (g .sorted) (g .order) (g .tree),
       each-is 69632 (length (b .from)) (length (b .to)) (length (b .code)) (length (b .cost)) (g .from) (g .to) (g .code) (g .cost),

@@ -1,5 +1,4 @@
-pub mod StepLaws
-pub mod PlaceLaws
+pub mod ShiftLaws
 pub mod IndexLaws
 pub mod CountLaws
 pub mod SearchLaws

@@ -4,16 +4,7 @@ use mathlib.Core.List.{List}
 use Prim.Native.Nat.{ℕ, _+_, _≤_, _<_}
 use lib.ListN.{set, drop}
 use Rattle.walks.specs.Walk.{at}
-
--- the first n of K rise
-pub record Rising (K : List ℕ) (n : ℕ) : Type 0 where
-  pub rises : (a b : ℕ) → a < b → b < n → at K a < at K b
-
--- x belongs at place p of the first n: what stands before is below x, and what stands from there on is not
-pub record Place (K : List ℕ) (n x p : ℕ) : Type 0 where
-  pub within : p ≤ n
-  pub below : (a : ℕ) → a < p → at K a < x
-  pub above : (a : ℕ) → p ≤ a → a < n → x ≤ at K a
+use Rattle.rising.specs.Place.{Rising}
 
 -- L' is L with x put in at place p of the first n
 pub record Inserted (L L' : List ℕ) (n p x : ℕ) : Type 0 where

@@ -1,5 +1,4 @@
 pub mod Buffers
 pub mod Explorable
 pub mod Index
-pub mod Records
 pub mod Answer

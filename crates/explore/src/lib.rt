@@ -11,16 +11,15 @@ mod arcs;
 mod hints;
 mod index;
 mod search;
-mod steps;
 
-// The sheet was refused or has a count out of range, or a buffer is too short; more than 2,048 nodes are reachable; or so many nodes and arcs.
+// The sheet was refused or has a count out of range, or a buffer is too short; more than 2,048 nodes are reachable; or the numbers of nodes and of arcs.
 pub enum Outcome {
     Malformed,
     TooMany,
     Graph(usize, usize),
 }
 
-// Whether so many locations, clocks and edges are in range in an edition.
+// Whether the counts of locations, clocks and edges are in range in an edition.
 fn counts_in_range(edition: u8, locations: u8, clocks: u8, edges: u8) -> bool
     ensures { λ r. ⌜ (r ≡ true → CountsInRange edition locations clocks edges) ⌝ ∗ ⌜ (r ≡ false → CountsInRange edition locations clocks edges → ⊥) ⌝ }
 {
@@ -33,7 +32,7 @@ fn counts_in_range(edition: u8, locations: u8, clocks: u8, edges: u8) -> bool
     if clocks < 1 {
         return false;
     }
-    if sheet::most_clocks(edition) < clocks {
+    if editions::most_clocks(edition) < clocks {
         return false;
     }
     edges <= 32

@@ -26,9 +26,9 @@ pub(crate) fn search(
         (now (from .exit)) (now (to .exit)) (now (code .exit)) (now (cost .exit)) (now (reward .exit))) r ⌝ }
 {
     let written = sheet.edge;
-    let edges = crate::steps::records(written);
+    let edges = stepper::edge_records(written);
     let listed = sheet.location;
-    let locations = crate::steps::by_byte(listed);
+    let locations = stepper::location_records(listed);
     nodes[0] = 0;
     sorted[0] = 0;
     order[0] = 0;
@@ -42,12 +42,12 @@ pub(crate) fn search(
         t += 1;
         let x = nodes[i];
         let edge = edges[k % 32];
-        if crate::steps::elsewhere(x, sheet.edition, k, edge.source) {
+        if stepper::elsewhere(x, sheet.edition, k, edge.source) {
             continue;
         }
-        let l = crate::steps::location_of(x, sheet.edition, k, edge.target);
+        let l = stepper::location_needed(x, sheet.edition, k, edge.target);
         let location = locations[l];
-        let s = crate::steps::step_at(
+        let s = stepper::step_at(
             x,
             k,
             sheet.edition,
@@ -65,8 +65,8 @@ pub(crate) fn search(
         if j == 2048 {
             return Outcome::TooMany;
         }
-        crate::arcs::join(from, to, code, m, i, j, k);
-        crate::arcs::price(cost, reward, m, s.cost, s.reward);
+        crate::arcs::set_ends(from, to, code, m, i, j, k);
+        crate::arcs::set_prices(cost, reward, m, s.cost, s.reward);
         m += 1;
         if j == n {
             hints[slot] = n as u16;

@@ -9,19 +9,19 @@ ghost use Rattle.work.specs.Work.{lentPairs};
 ghost use Rattle.exports.specs.ExportedPlan.{ExportedPlan};
 ghost use Rattle.exports.specs.ExportedWork.{ExportedWork};
 
-fn word(x: u32) -> i64
+fn wide_u32(x: u32) -> i64
     ensures { λ r. ⌜ r ≡ pos x ⌝ }
 {
     x as i64
 }
 
-fn half(x: u16) -> i64
+fn wide_u16(x: u16) -> i64
     ensures { λ r. ⌜ r ≡ pos x ⌝ }
 {
     x as i64
 }
 
-fn wide(x: i16) -> i64
+fn wide_i16(x: i16) -> i64
     ensures { λ r. ⌜ r ≡ x ⌝ }
 {
     x as i64
@@ -32,7 +32,7 @@ fn wide(x: i16) -> i64
 pub extern "C" fn planner_check(sheet: &[u8]) -> u8
     ensures { λ r. ⌜ r ≡ checkOf (now (sheet .entry)) ⌝ }
 {
-    sheet::check(sheet)
+    reader::check(sheet)
 }
 
 // A single step: the new node's number, the cost, the reward and the units elapsed.
@@ -54,9 +54,9 @@ pub extern "C" fn planner_step(
 {
     let s = step::step(sheet, node, code);
     *number = s.number;
-    *cost = wide(s.cost);
-    *reward = half(s.reward);
-    *units = half(s.units);
+    *cost = wide_i16(s.cost);
+    *reward = wide_u16(s.reward);
+    *units = wide_u16(s.units);
     s.refusal
 }
 
@@ -83,18 +83,18 @@ pub extern "C" fn planner_plan(
     let a = planner::plan(sheet, nodes, potentials, steps);
     let upper = a.p;
     *p = upper;
-    *q = word(a.q);
-    *n = half(a.n);
-    *s = half(a.s);
-    *m = half(a.m);
-    *units = half(a.units);
+    *q = wide_u32(a.q);
+    *n = wide_u16(a.n);
+    *s = wide_u16(a.s);
+    *m = wide_u16(a.m);
+    *units = wide_u16(a.units);
     let spent = a.cost;
     *cost = spent;
-    *reward = word(a.reward);
+    *reward = wide_u32(a.reward);
     a.refusal
 }
 
-// A work plan in whole units: a stem and a cycle of so many pairs.
+// A work plan in whole units: the numbers of pairs of its stem and of its cycle.
 #[no_mangle]
 pub extern "C" fn planner_work(
     sheet: &[u8],
@@ -107,7 +107,7 @@ pub extern "C" fn planner_work(
         (lentPairs (now (waits .exit)) (now (edges .exit))) r (now (stem .exit)) (now (cycle .exit)) ⌝ }
 {
     let a = work::work(sheet, waits, edges);
-    *stem = half(a.stem);
-    *cycle = half(a.cycle);
+    *stem = wide_u16(a.stem);
+    *cycle = wide_u16(a.cycle);
     a.refusal
 }

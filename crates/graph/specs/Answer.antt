@@ -17,14 +17,16 @@ pub record SearchArguments (F T : List ℕ) (cost : List ℤ) (reward : List ℕ
   pub potential-room : n ≤ potentials
   pub cycle-room : n ≤ arcs
 
--- the first k entries of cycle are the arcs of a negative cycle, in order, and nothing else is written
+-- the first k entries of cycle are the arcs of a negative cycle, in order, and nothing else is written. Left open is which of the negative cycles
+-- this is, and with that k, and at which of its nodes it begins; that the answer is a cycle is fixed: graph/proofs/OneKind.antt
 pub record CycleFound (F T : List ℕ) (weight : ℕ → ℤ) (n k : ℕ) (potential potential' : List ℤ) (cycle cycle' : List ℕ) : Type 0 where
   pub short : k ≤ n
   pub negative : NegativeCycle F T (length F) weight (take k cycle')
   pub rest : drop k cycle' ≡ drop k cycle
   pub kept : potential' ≡ potential
 
--- the first n entries of potential are the nodes' potentials, no negative cycle is reached, and nothing else is written
+-- the first n entries of potential are the nodes' potentials, no negative cycle is reached, and nothing else is written. This
+-- fixes every entry: graph/proofs/OneKind.antt
 pub record PotentialsFound (F T : List ℕ) (weight : ℕ → ℤ) (n : ℕ) (potential potential' : List ℤ) (cycle cycle' : List ℕ) : Type 0 where
   pub potentials : (v : ℕ) → v < n → PotentialOrMark F T (length F) weight v (atℤ potential' v)
   pub none : NoneNegative F T (length F) weight

@@ -32,18 +32,18 @@ pub(crate) fn entry(s: &[u16], e: usize) -> usize
     s[e] as usize
 }
 
-pub(crate) fn price(s: &[i16], e: usize) -> i64
-    requires { ⌜ e < length (now s) ⌝ }
-    ensures { λ r. ⌜ r ≡ atℤ (now (s .entry)) e ⌝ }
+pub(crate) fn cost_at(cost: &[i16], e: usize) -> i64
+    requires { ⌜ e < length (now cost) ⌝ }
+    ensures { λ r. ⌜ r ≡ atℤ (now (cost .entry)) e ⌝ }
 {
-    s[e] as i64
+    cost[e] as i64
 }
 
-fn gain(s: &[u16], e: usize) -> i64
-    requires { ⌜ e < length (now s) ⌝ }
-    ensures { λ r. ⌜ r ≡ pos (at (now (s .entry)) e) ⌝ }
+fn reward_at(reward: &[u16], e: usize) -> i64
+    requires { ⌜ e < length (now reward) ⌝ }
+    ensures { λ r. ⌜ r ≡ pos (at (now (reward .entry)) e) ⌝ }
 {
-    s[e] as i64
+    reward[e] as i64
 }
 
 fn weigh(k: Coefficients, x: i64, y: i64) -> i64
@@ -61,5 +61,5 @@ pub(crate) fn weight(cost: &[i16], reward: &[u16], k: Coefficients, e: usize) ->
     requires { ⌜ natAbs (atℤ (now cost) e) ≤ 10000 ⌝ ∗ ⌜ at (now reward) e ≤ 10000 ⌝ }
     ensures { λ r. ⌜ r ≡ weightOf (k .a) (k .b) (k .c) (now (cost .entry)) (now (reward .entry)) e ⌝ }
 {
-    weigh(k, price(cost, e), gain(reward, e))
+    weigh(k, cost_at(cost, e), reward_at(reward, e))
 }

@@ -4,7 +4,7 @@ ghost use Prim.Native.Nat.{ℕ, _<_};
 ghost use lib.ListN.{length};
 ghost use lib.Signed.{_≤ℤ_};
 ghost use Rattle.walks.specs.Form.{Arc, Graph, CoefficientsInRange};
-ghost use Rattle.walks.proofs.Tests.{Test};
+ghost use Rattle.walks.specs.Tests.{Test};
 ghost use Rattle.graph.specs.Answer.{SearchArguments};
 use crate::Coefficients;
 use crate::entries;
@@ -18,7 +18,7 @@ fn is_within(x: i64, low: i64, high: i64) -> bool
     x <= high
 }
 
-fn in_range(k: Coefficients) -> bool
+fn coefficients_in_range(k: Coefficients) -> bool
     ensures { λ t. ⌜ Test (CoefficientsInRange (k .a) (k .b) (k .c)) t ⌝ }
 {
     let a = k.a;
@@ -46,7 +46,7 @@ fn arc(from: &[u16], to: &[u16], cost: &[i16], reward: &[u16], nodes: usize, e: 
     if 10000 < entries::entry(reward, e) {
         return false;
     }
-    is_within(entries::price(cost, e), -10000, 10000)
+    is_within(entries::cost_at(cost, e), -10000, 10000)
 }
 
 fn arcs(from: &[u16], to: &[u16], cost: &[i16], reward: &[u16], nodes: usize) -> bool
@@ -109,7 +109,7 @@ pub(crate) fn well_formed(
     if arcs < nodes {
         return false;
     }
-    if !in_range(k) {
+    if !coefficients_in_range(k) {
         return false;
     }
     graph(from, to, cost, reward, nodes)

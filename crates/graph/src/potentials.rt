@@ -1,58 +1,56 @@
-// Sums and comparisons of potentials, signed numbers of 64 bits. Their contracts speak of codes: a natural number that stands for each.
+// Sums and comparisons of potentials, signed numbers of 64 bits. Their contracts speak of these raised to natural numbers.
 ghost use mathlib.Core.Path.{_≡_};
 ghost use Prim.Native.Nat.{_+_, _<_, _≤_};
 ghost use lib.ListN.{length, set};
 ghost use lib.IntN.{natAbs};
 ghost use Rattle.walks.specs.Walk.{at};
-ghost use Rattle.walks.proofs.Codes.{code, codes};
-ghost use Rattle.walks.proofs.Signed.{Sum, Less, Low};
-ghost use Rattle.walks.proofs.Rounds.{bias, start, most, deep};
+ghost use Rattle.walks.specs.SearchNumbers.{raised, raisedAll, Sum, Less, TooLow, bias, start, most, deep};
 
 fn add(x: i64, y: i64) -> i64
-    requires { ⌜ start < code start x + deep ⌝ ∗ ⌜ code start x ≤ start + deep ⌝ ∗ ⌜ natAbs y ≤ most ⌝ }
-    ensures { λ r. ⌜ Sum (code start x) (code bias y) r ⌝ }
+    requires { ⌜ start < raised start x + deep ⌝ ∗ ⌜ raised start x ≤ start + deep ⌝ ∗ ⌜ natAbs y ≤ most ⌝ }
+    ensures { λ r. ⌜ Sum (raised start x) (raised bias y) r ⌝ }
 {
     x + y
 }
 
-// The potential of u and a weight.
-pub(crate) fn beyond(dist: &[i64], u: usize, w: i64) -> i64
-    requires { ⌜ u < length (now dist) ⌝ ∗ ⌜ natAbs w ≤ most ⌝ }
-    requires { ⌜ start < at (codes start (now dist)) u + deep ⌝ ∗ ⌜ at (codes start (now dist)) u ≤ start + deep ⌝ }
-    ensures { λ r. ⌜ Sum (at (codes start (now (dist .entry))) u) (code bias w) r ⌝ }
+// The sum of the potential of u and a weight.
+pub(crate) fn sum_at(potential: &[i64], u: usize, w: i64) -> i64
+    requires { ⌜ u < length (now potential) ⌝ ∗ ⌜ natAbs w ≤ most ⌝ }
+    requires { ⌜ start < at (raisedAll start (now potential)) u + deep ⌝ ∗ ⌜ at (raisedAll start (now potential)) u ≤ start + deep ⌝ }
+    ensures { λ r. ⌜ Sum (at (raisedAll start (now (potential .entry))) u) (raised bias w) r ⌝ }
 {
-    let x = dist[u];
+    let x = potential[u];
     add(x, w)
 }
 
 fn less(x: i64, y: i64) -> bool
-    requires { ⌜ 0 < code start y ⌝ }
-    ensures { λ b. ⌜ Less (code start x) (code start y) b ⌝ }
+    requires { ⌜ 0 < raised start y ⌝ }
+    ensures { λ b. ⌜ Less (raised start x) (raised start y) b ⌝ }
 {
     x < y
 }
 
 // Whether x is below the potential of v.
-pub(crate) fn improves(dist: &[i64], v: usize, x: i64) -> bool
-    requires { ⌜ v < length (now dist) ⌝ ∗ ⌜ 0 < at (codes start (now dist)) v ⌝ }
-    ensures { λ b. ⌜ Less (code start x) (at (codes start (now (dist .entry))) v) b ⌝ }
+pub(crate) fn improves(potential: &[i64], v: usize, x: i64) -> bool
+    requires { ⌜ v < length (now potential) ⌝ ∗ ⌜ 0 < at (raisedAll start (now potential)) v ⌝ }
+    ensures { λ b. ⌜ Less (raised start x) (at (raisedAll start (now (potential .entry))) v) b ⌝ }
 {
-    let y = dist[v];
+    let y = potential[v];
     less(x, y)
 }
 
 // Whether the potential of v is −10^15 or less: then the climb from v finds a cycle.
-pub(crate) fn low(dist: &[i64], v: usize) -> bool
-    requires { ⌜ v < length (now dist) ⌝ }
-    ensures { λ b. ⌜ Low (at (codes start (now (dist .entry))) v) b ⌝ }
+pub(crate) fn too_low(potential: &[i64], v: usize) -> bool
+    requires { ⌜ v < length (now potential) ⌝ }
+    ensures { λ b. ⌜ TooLow (at (raisedAll start (now (potential .entry))) v) b ⌝ }
 {
-    let y = dist[v];
+    let y = potential[v];
     less(y, -999999999999999)
 }
 
-pub(crate) fn put(dist: &mut [i64], v: usize, x: i64)
-    requires { ⌜ v < length (now dist) ⌝ }
-    ensures { λ _. ⌜ codes start (now (dist .exit)) ≡ set (codes start (now (dist .entry))) v (code start x) ⌝ }
+pub(crate) fn put(potential: &mut [i64], v: usize, x: i64)
+    requires { ⌜ v < length (now potential) ⌝ }
+    ensures { λ _. ⌜ raisedAll start (now (potential .exit)) ≡ set (raisedAll start (now (potential .entry))) v (raised start x) ⌝ }
 {
-    dist[v] = x;
+    potential[v] = x;
 }

@@ -6,9 +6,8 @@ ghost use Prim.Native.Nat.{ℕ, _<_, _≤_};
 ghost use lib.ListN.{length};
 ghost use Rattle.walks.specs.Weight.{weightOf};
 ghost use Rattle.walks.specs.Form.{Graph, CoefficientsInRange};
-ghost use Rattle.walks.proofs.Codes.{codes};
-ghost use Rattle.walks.proofs.Rounds.{start, Relaxed, Ended};
-ghost use Rattle.walks.proofs.Coded.{coded, Running};
+ghost use Rattle.walks.specs.SearchNumbers.{raisedAll, start};
+ghost use Rattle.walks.specs.SearchTerms.{Relaxed, Ended, raisedWeight, Running};
 ghost use Rattle.graph.specs.Answer.{CycleFound, PotentialsFound};
 use crate::Coefficients;
 use crate::climb;
@@ -23,26 +22,26 @@ fn relax(
     cost: &[i16],
     reward: &[u16],
     k: Coefficients,
-    dist: &mut [i64],
+    potential: &mut [i64],
     parent: &mut [usize],
     stamp: &mut [usize],
     b: usize,
     e: usize,
 ) -> bool
-    requires { ⌜ Running (now from) (now to) (now cost) (now reward) (k .a) (k .b) (k .c) (now dist) (now parent) (now stamp) b e ⌝ }
+    requires { ⌜ Running (now from) (now to) (now cost) (now reward) (k .a) (k .b) (k .c) (now potential) (now parent) (now stamp) b e ⌝ }
     requires { ⌜ e < length (now from) ⌝ }
-    ensures { λ t. ⌜ Relaxed (now (from .entry)) (now (to .entry)) (coded (k .a) (k .b) (k .c) (now (cost .entry)) (now (reward .entry)))
-        (length (now (from .entry))) (codes start (now (dist .entry))) (now (stamp .entry))
-        (codes start (now (dist .exit))) (now (parent .exit)) (now (stamp .exit)) b 2048 e t ⌝ }
+    ensures { λ t. ⌜ Relaxed (now (from .entry)) (now (to .entry)) (raisedWeight (k .a) (k .b) (k .c) (now (cost .entry)) (now (reward .entry)))
+        (length (now (from .entry))) (raisedAll start (now (potential .entry))) (now (stamp .entry))
+        (raisedAll start (now (potential .exit))) (now (parent .exit)) (now (stamp .exit)) b 2048 e t ⌝ }
 {
     let u = entries::entry(from, e);
     if stamp[u] + 131072 <= b + e {
         return false;
     }
     let v = entries::entry(to, e);
-    let x = potentials::beyond(dist, u, entries::weight(cost, reward, k, e));
-    if potentials::improves(dist, v, x) {
-        potentials::put(dist, v, x);
+    let x = potentials::sum_at(potential, u, entries::weight(cost, reward, k, e));
+    if potentials::improves(potential, v, x) {
+        potentials::put(potential, v, x);
         parent[v] = e + 1;
         stamp[v] = b + e + 1;
         return true;
@@ -57,21 +56,21 @@ fn round(
     cost: &[i16],
     reward: &[u16],
     k: Coefficients,
-    dist: &mut [i64],
+    potential: &mut [i64],
     parent: &mut [usize],
     stamp: &mut [usize],
     b: usize,
 ) -> usize
-    requires { ⌜ Running (now from) (now to) (now cost) (now reward) (k .a) (k .b) (k .c) (now dist) (now parent) (now stamp) b 0 ⌝ }
-    ensures { λ v. ⌜ Ended (now (from .entry)) (now (to .entry)) (coded (k .a) (k .b) (k .c) (now (cost .entry)) (now (reward .entry)))
-        (length (now (from .entry))) (codes start (now (dist .exit))) (now (parent .exit)) (now (stamp .exit)) b 2048 v ⌝ }
+    requires { ⌜ Running (now from) (now to) (now cost) (now reward) (k .a) (k .b) (k .c) (now potential) (now parent) (now stamp) b 0 ⌝ }
+    ensures { λ v. ⌜ Ended (now (from .entry)) (now (to .entry)) (raisedWeight (k .a) (k .b) (k .c) (now (cost .entry)) (now (reward .entry)))
+        (length (now (from .entry))) (raisedAll start (now (potential .exit))) (now (parent .exit)) (now (stamp .exit)) b 2048 v ⌝ }
 {
     let mut seen = 2048;
     let mut e = 0;
     while e < from.len() {
-        if relax(from, to, cost, reward, k, dist, parent, stamp, b, e) {
+        if relax(from, to, cost, reward, k, potential, parent, stamp, b, e) {
             seen = entries::entry(to, e);
-            if potentials::low(dist, seen) {
+            if potentials::too_low(potential, seen) {
                 return seen;
             }
         }
@@ -100,11 +99,11 @@ pub(crate) fn search(
         (weightOf (k .a) (k .b) (k .c) (now (cost .entry)) (now (reward .entry))) nodes
         (now (potential .entry)) (now (potential .exit)) (now (cycle .entry)) (now (cycle .exit))) ⌝ }
 {
-    let mut dist = [1152921504606846976i64; 2048];
+    let mut found = [1152921504606846976i64; 2048];
     let mut parent = [0usize; 2048];
     let mut stamp = [0usize; 2048];
-    let mut order = [0usize; 2048];
-    dist[0] = 0;
+    let mut climbed = [0usize; 2048];
+    found[0] = 0;
     stamp[0] = 131072;
     let mut b = 131072;
     loop {
@@ -114,20 +113,20 @@ pub(crate) fn search(
             cost,
             reward,
             k,
-            &mut dist,
+            &mut found,
             &mut parent,
             &mut stamp,
             b,
         );
         if v == 2048 {
-            copy::potentials(&dist, potential, nodes);
+            copy::potentials(&found, potential, nodes);
             return 0;
         }
-        let part = climb::climb(from, &parent, &mut order, v);
+        let part = climb::climb(from, &parent, &mut climbed, v);
         let at = part.start;
         let end = part.end;
         if at < end {
-            copy::arcs(&order, cycle, at, end - at);
+            copy::arcs(&climbed, cycle, at, end - at);
             return end - at;
         }
         b += 131072;

@@ -4,7 +4,7 @@ use Prim.Native.Nat.{ℕ, _+_, _*_, _/_, _≤_, _<_}
 use native.Mathlib.Omega.{arith}
 use native.Mathlib.Nat.{mul-le-mul-right, mul-comm, mul-assoc, add-mul, div-mul-le-self, le-div-iff-mul-le, le-of-mul-le-mul-right, suc-mul}
 
-swap : (a b c : ℕ) → a * b * c ≡ a * c * b
+pub swap : (a b c : ℕ) → a * b * c ≡ a * c * b
 swap a b c = mul-assoc a b c ∙ ap (λ (z : ℕ). a * z) (mul-comm b c) ∙ sym (mul-assoc a c b)
 
 -- the fraction x over q, in units of one over s

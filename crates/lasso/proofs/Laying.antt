@@ -116,13 +116,13 @@ part-is : (a n : ℕ) (l : List ℕ) → a + n ≤ length l → take n (drop a l
 part-is a n l h = ap (λ (x : List ℕ). take n (drop a x)) (sym (take-length l)) ∙ take-part a n (length l) l h
 
 -- what the three copies come to
-pub laid-out : (F T tree cycle order arcs arcs1 arcs2 arcs3 : List ℕ) (n k top turn s : ℕ) → length order ≡ 2048 → top ≤ 2048 → 2048 ≤ top + n → s ≡ 2048 - top
+pub laid-out : (F T tree cycle path arcs arcs1 arcs2 arcs3 : List ℕ) (n k top turn s : ℕ) → length path ≡ 2048 → top ≤ 2048 → 2048 ≤ top + n → s ≡ 2048 - top
     → turn < k → k ≤ length cycle → n + k ≤ length arcs → ((i : ℕ) → i < k → at F (at cycle turn) ≤ at F (at cycle i))
     → ((i : ℕ) → i < turn → at F (at cycle turn) < at F (at cycle i))
-    → Stem F T (length F) 0 (slice top (length order) order) (at F (at cycle turn)) → AlongTree T tree (slice top (length order) order)
-    → arcs1 ≡ paste arcs 0 (take (2048 - top) (drop top order)) s → arcs2 ≡ paste arcs1 s (take (k - turn) (drop turn cycle)) (k - turn)
+    → Stem F T (length F) 0 (slice top (length path) path) (at F (at cycle turn)) → AlongTree T tree (slice top (length path) path)
+    → arcs1 ≡ paste arcs 0 (take (2048 - top) (drop top path)) s → arcs2 ≡ paste arcs1 s (take (k - turn) (drop turn cycle)) (k - turn)
     → arcs3 ≡ paste arcs2 (s + (k - turn)) cycle turn → LaidOut F T tree cycle n k s arcs arcs3
-laid-out F T tree cycle order arcs arcs1 arcs2 arcs3 n k top turn s lo ht hn es hk hc room least before stem along e1 e2 e3 = record {
+laid-out F T tree cycle path arcs arcs1 arcs2 arcs3 n k top turn s lo ht hn es hk hc room least before stem along e1 e2 e3 = record {
   turn = turn;
   below = hk;
   first = least;
@@ -135,20 +135,20 @@ laid-out F T tree cycle order arcs arcs1 arcs2 arcs3 n k top turn s lo ht hn es 
 }
   where
     x : List ℕ
-    x = slice top (length order) order
+    x = slice top (length path) path
 
     y : List ℕ
     y = slice turn k cycle
 
-    is-x : take (2048 - top) (drop top order) ≡ x
-    is-x = let e : top + (2048 - top) ≡ length order = omega arith in
-        part-is top (2048 - top) order (omega arith) ∙ ap (λ (i : ℕ). slice top i order) e
+    is-x : take (2048 - top) (drop top path) ≡ x
+    is-x = let e : top + (2048 - top) ≡ length path = omega arith in
+        part-is top (2048 - top) path (omega arith) ∙ ap (λ (i : ℕ). slice top i path) e
 
     is-y : take (k - turn) (drop turn cycle) ≡ y
     is-y = let e : turn + (k - turn) ≡ k = omega arith in part-is turn (k - turn) cycle (omega arith) ∙ ap (λ (i : ℕ). slice turn i cycle) e
 
     long-x : length x ≡ s
-    long-x = length-slice top (length order) order (omega arith) ∙ omega arith
+    long-x = length-slice top (length path) path (omega arith) ∙ omega arith
 
     long-y : length y ≡ k - turn
     long-y = length-slice turn k cycle hc

@@ -30,12 +30,12 @@ pub least-more : (F cycle : List ℕ) (i best x best' : ℕ) → ((j : ℕ) → 
 least-more F cycle i best x best' p q l m = all-more (λ j. best' ≤ at F (at cycle j)) i (λ j h. omega (arith, p j h)) (omega (arith, q))
 
 -- one arc more, in front of the stem
-pub stem-on : (F tree order : List ℕ) (n x top h y : ℕ)
-    → ((g : Tree F tree n) → Stem F (g .T) (g .m) x (slice top (length order) order) h × AlongTree (g .T) tree (slice top (length order) order)) → x < n → 0 < x
-    → 1 ≤ top → top ≤ length order → y ≡ at F (at tree x) → (g : Tree F tree n)
-    → Stem F (g .T) (g .m) y (slice (top - 1) (length (set order (top - 1) (at tree x))) (set order (top - 1) (at tree x))) h
-    × AlongTree (g .T) tree (slice (top - 1) (length (set order (top - 1) (at tree x))) (set order (top - 1) (at tree x)))
-stem-on F tree order n x zero h y k hn hx ht hl p g = absurd (omega arith)
-stem-on F tree order n x (suc a) h y k hn hx ht hl p g =
+pub stem-on : (F tree path : List ℕ) (n x top h y : ℕ)
+    → ((g : Tree F tree n) → Stem F (g .T) (g .m) x (slice top (length path) path) h × AlongTree (g .T) tree (slice top (length path) path)) → x < n → 0 < x
+    → 1 ≤ top → top ≤ length path → y ≡ at F (at tree x) → (g : Tree F tree n)
+    → Stem F (g .T) (g .m) y (slice (top - 1) (length (set path (top - 1) (at tree x))) (set path (top - 1) (at tree x))) h
+    × AlongTree (g .T) tree (slice (top - 1) (length (set path (top - 1) (at tree x))) (set path (top - 1) (at tree x)))
+stem-on F tree path n x zero h y k hn hx ht hl p g = absurd (omega arith)
+stem-on F tree path n x (suc a) h y k hn hx ht hl p g =
     let s : suc a - 1 ≡ a = omega arith in
-    rw (p, s) (stem-more F tree n x a h order g hn hx hl (k g .0), rw (stored-before order a (at tree x) hl) (ap (at tree) (g .ends x hn hx), k g .1))
+    rw (p, s) (stem-more F tree n x a h path g hn hx hl (k g .0), rw (stored-before path a (at tree x) hl) (ap (at tree) (g .ends x hn hx), k g .1))

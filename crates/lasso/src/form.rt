@@ -3,11 +3,10 @@ ghost use Prim.Native.Nat.{ℕ, _≤_, _<_};
 ghost use mathlib.Core.Path.{_≡_};
 ghost use lib.ListN.{length};
 ghost use Rattle.walks.specs.Walk.{at};
-ghost use Rattle.walks.proofs.Tests.{Test};
+ghost use Rattle.walks.specs.Tests.{Test};
 ghost use Rattle.lasso.specs.Answer.{TreeArc, CycleArc, LassoArguments};
 
-// The node at a place.
-pub(crate) fn node(s: &[u16], e: usize) -> usize
+pub(crate) fn entry(s: &[u16], e: usize) -> usize
     requires { ⌜ e < length (now s) ⌝ }
     ensures { λ r. ⌜ r ≡ at (now (s .entry)) e ⌝ }
 {
@@ -22,10 +21,10 @@ fn tree_arc(from: &[u16], to: &[u16], tree: &[usize], v: usize) -> bool
     if from.len() <= e {
         return false;
     }
-    if node(to, e) != v {
+    if entry(to, e) != v {
         return false;
     }
-    node(from, e) < v
+    entry(from, e) < v
 }
 
 fn tree_arcs(from: &[u16], to: &[u16], tree: &[usize], nodes: usize) -> bool
@@ -50,7 +49,7 @@ fn cycle_arc(from: &[u16], cycle: &[usize], nodes: usize, i: usize) -> bool
     if from.len() <= e {
         return false;
     }
-    node(from, e) < nodes
+    entry(from, e) < nodes
 }
 
 fn cycle_arcs(from: &[u16], cycle: &[usize], nodes: usize, k: usize) -> bool

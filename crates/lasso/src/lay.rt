@@ -6,22 +6,22 @@ ghost use lib.Seq.{slice, paste};
 ghost use Rattle.walks.specs.Walk.{at};
 ghost use Rattle.walks.specs.Lasso.{Tree, Stem};
 ghost use Rattle.lasso.specs.Answer.{LassoArguments, AlongTree, LaidOut};
-use crate::form::node;
+use crate::form::entry;
 
-// The tree's arcs from node 0 to h, at the end of order; where they begin.
-fn stem(from: &[u16], tree: &[usize], nodes: usize, order: &mut [usize], h: usize) -> usize
-    requires { ⌜ Tree (now from) (now tree) nodes ⌝ ∗ ⌜ h < nodes ⌝ ∗ ⌜ nodes ≤ length (now tree) ⌝ ∗ ⌜ nodes ≤ length (now order) ⌝ }
-    ensures { λ top. ⌜ top ≤ length (now (order .entry)) ⌝ ∗ ⌜ length (now (order .entry)) ≤ top + nodes ⌝
-        ∗ ⌜ ((g : Tree (now (from .entry)) (now (tree .entry)) nodes) → Stem (now (from .entry)) (g .T) (g .m) 0 (slice top (length (now (order .exit))) (now (order .exit))) h
-        × AlongTree (g .T) (now (tree .entry)) (slice top (length (now (order .exit))) (now (order .exit)))) ⌝ }
+// The tree's arcs from node 0 to h, at the end of path; where they begin.
+fn stem(from: &[u16], tree: &[usize], nodes: usize, path: &mut [usize], h: usize) -> usize
+    requires { ⌜ Tree (now from) (now tree) nodes ⌝ ∗ ⌜ h < nodes ⌝ ∗ ⌜ nodes ≤ length (now tree) ⌝ ∗ ⌜ nodes ≤ length (now path) ⌝ }
+    ensures { λ top. ⌜ top ≤ length (now (path .entry)) ⌝ ∗ ⌜ length (now (path .entry)) ≤ top + nodes ⌝
+        ∗ ⌜ ((g : Tree (now (from .entry)) (now (tree .entry)) nodes) → Stem (now (from .entry)) (g .T) (g .m) 0 (slice top (length (now (path .exit))) (now (path .exit))) h
+        × AlongTree (g .T) (now (tree .entry)) (slice top (length (now (path .exit))) (now (path .exit)))) ⌝ }
 {
     let mut x = h;
-    let mut top = order.len();
+    let mut top = path.len();
     while 0 < x {
         let e = tree[x];
         top -= 1;
-        order[top] = e;
-        x = node(from, e);
+        path[top] = e;
+        x = entry(from, e);
     }
     top
 }
@@ -33,10 +33,10 @@ fn first(from: &[u16], cycle: &[usize], k: usize) -> usize
         ∗ ⌜ ((i : ℕ) → i < t → at (now (from .entry)) (at (now (cycle .entry)) t) < at (now (from .entry)) (at (now (cycle .entry)) i)) ⌝ }
 {
     let mut t = 0;
-    let mut best = node(from, cycle[0]);
+    let mut best = entry(from, cycle[0]);
     let mut i = 1;
     while i < k {
-        let x = node(from, cycle[i]);
+        let x = entry(from, cycle[i]);
         if x < best {
             best = x;
             t = i;
@@ -72,11 +72,11 @@ pub(crate) fn lay_out(
     requires { ⌜ LassoArguments (now from) (now to) (now tree) (now cycle) nodes k (length (now arcs)) ⌝ }
     ensures { λ s. ⌜ LaidOut (now (from .entry)) (now (to .entry)) (now (tree .entry)) (now (cycle .entry)) nodes k s (now (arcs .entry)) (now (arcs .exit)) ⌝ }
 {
-    let mut order = [0usize; 2048];
+    let mut path = [0usize; 2048];
     let turn = first(from, cycle, k);
-    let top = stem(from, tree, nodes, &mut order, node(from, cycle[turn]));
+    let top = stem(from, tree, nodes, &mut path, entry(from, cycle[turn]));
     let s = 2048 - top;
-    copy(&order[top..], s, arcs, 0);
+    copy(&path[top..], s, arcs, 0);
     copy(&cycle[turn..k], k - turn, arcs, s);
     copy(cycle, turn, arcs, s + (k - turn));
     s

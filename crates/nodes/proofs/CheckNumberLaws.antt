@@ -12,8 +12,8 @@ use Rattle.sheet.specs.Bytes.{byteAt}
 use Rattle.sheet.specs.Maps.{stands}
 use Rattle.sheet.specs.Fields.{boundBit, isWithin}
 use Rattle.sheet.specs.Records.{mapBytes, mapOf, boundAt, recordLength, recordAt, editionOf, locationAt, locationsIn, clocksIn, edgesIn}
-use Rattle.sheet.specs.Questions.{ask, orElse, each, firstOf, bitGood, mapCode, fieldGood, fieldsCode, boundsCode, endsCode, locationCode, edgeCode}
-use Rattle.sheet.specs.Questions.{distinctCode, startCode, restCode, recordsCode, checkOf, checkNumbers}
+use Rattle.sheet.specs.Questions.{ask, orElse, each, firstOf, bitGood, mapRefusal, fieldGood, fieldsRefusal, boundsRefusal, endsRefusal, locationRefusal, edgeRefusal}
+use Rattle.sheet.specs.Questions.{distinctRefusal, startRefusal, restRefusal, recordsRefusal, checkOf, checkNumbers}
 use Rattle.sheet.specs.declared.fields.Kind.{Kind}
 use Rattle.sheet.specs.declared.fields.Kind.the-variants.{LocationRecord, EdgeRecord}
 use Rattle.sheet.proofs.PairLaws.{isNew}
@@ -46,44 +46,44 @@ module _ (t : ℕ → Bool) (all : every (λ j x. eqb x 17 || t x) checkNumbers 
   first zero f k = number 0 refl
   first (suc n) f k = either (firstOf n f) (f n) (first n f k) (k n)
 
-  map-passes : (kind : Kind) (k : ℕ) (s : List ℕ) (at : ℕ) → Passes (mapCode kind k s at)
-  unfolding mapCode
+  map-passes : (kind : Kind) (k : ℕ) (s : List ℕ) (at : ℕ) → Passes (mapRefusal kind k s at)
+  unfolding mapRefusal
   map-passes kind k s at = asked 5 (leb (at + mapBytes kind) (length s)) _ (number 5 refl)
       (asked 6 (each 16 (bitGood (editionOf s) kind k (mapOf kind s at))) _ (number 6 refl) (asked 5 (leb (at + recordLength kind s at) (length s)) 0 (number 5 refl) (number 0 refl)))
 
-  fields-pass : (kind : Kind) (k : ℕ) (s : List ℕ) (at : ℕ) → Passes (fieldsCode kind k s at)
-  unfolding fieldsCode
+  fields-pass : (kind : Kind) (k : ℕ) (s : List ℕ) (at : ℕ) → Passes (fieldsRefusal kind k s at)
+  unfolding fieldsRefusal
   fields-pass kind k s at = asked 8 (each 16 (fieldGood kind k s at)) 0 (number 8 refl) (number 0 refl)
 
-  location-passes : (k : ℕ) (s : List ℕ) (at : ℕ) → Passes (locationCode k s at)
-  unfolding locationCode boundsCode
-  location-passes k s at = either (mapCode LocationRecord k s at) _ (map-passes LocationRecord k s at)
-      (either (boundsCode k s at) (fieldsCode LocationRecord k s at)
+  location-passes : (k : ℕ) (s : List ℕ) (at : ℕ) → Passes (locationRefusal k s at)
+  unfolding locationRefusal boundsRefusal
+  location-passes k s at = either (mapRefusal LocationRecord k s at) _ (map-passes LocationRecord k s at)
+      (either (boundsRefusal k s at) (fieldsRefusal LocationRecord k s at)
       (asked 7 (each k (λ j. stands (mapOf LocationRecord s at) (boundBit + j))) 0 (number 7 refl) (number 0 refl)) (fields-pass LocationRecord k s at))
 
-  edge-passes : (k l : ℕ) (s : List ℕ) (at : ℕ) → Passes (edgeCode k l s at)
-  unfolding edgeCode endsCode
-  edge-passes k l s at = either (mapCode EdgeRecord k s at) _ (map-passes EdgeRecord k s at)
-      (either (fieldsCode EdgeRecord k s at) (endsCode l s at) (fields-pass EdgeRecord k s at)
+  edge-passes : (k l : ℕ) (s : List ℕ) (at : ℕ) → Passes (edgeRefusal k l s at)
+  unfolding edgeRefusal endsRefusal
+  edge-passes k l s at = either (mapRefusal EdgeRecord k s at) _ (map-passes EdgeRecord k s at)
+      (either (fieldsRefusal EdgeRecord k s at) (endsRefusal l s at) (fields-pass EdgeRecord k s at)
       (asked 9 (ltb (byteAt s (at + 2)) l && ltb (byteAt s (at + 3)) l) 0 (number 9 refl) (number 0 refl)))
 
-  records-pass : (k l e : ℕ) (s : List ℕ) → Passes (distinctCode e s (locationAt s l)) → Passes (recordsCode k l e s)
-  unfolding recordsCode restCode startCode
-  records-pass k l e s d = either (firstOf l (λ i. locationCode k s (locationAt s i))) _ (first l _ (λ i. location-passes k s (locationAt s i)))
-      (either (firstOf e (λ i. edgeCode k l s (recordAt EdgeRecord s (locationAt s l) i))) _
+  records-pass : (k l e : ℕ) (s : List ℕ) → Passes (distinctRefusal e s (locationAt s l)) → Passes (recordsRefusal k l e s)
+  unfolding recordsRefusal restRefusal startRefusal
+  records-pass k l e s d = either (firstOf l (λ i. locationRefusal k s (locationAt s i))) _ (first l _ (λ i. location-passes k s (locationAt s i)))
+      (either (firstOf e (λ i. edgeRefusal k l s (recordAt EdgeRecord s (locationAt s l) i))) _
       (first e _ (λ i. edge-passes k l s (recordAt EdgeRecord s (locationAt s l) i)))
       (asked 10 (eqb (recordAt EdgeRecord s (locationAt s l) e) (length s)) _ (number 10 refl)
-      (either (distinctCode e s (locationAt s l)) (startCode k s) d (asked 11 (each k (λ j. ltb 0 (boundAt s 4 j))) 0 (number 11 refl) (number 0 refl)))))
+      (either (distinctRefusal e s (locationAt s l)) (startRefusal k s) d (asked 11 (each k (λ j. ltb 0 (boundAt s 4 j))) 0 (number 11 refl) (number 0 refl)))))
 
-  check-passes : (s : List ℕ) → Passes (distinctCode (edgesIn s) s (locationAt s (locationsIn s))) → Passes (checkOf s)
+  check-passes : (s : List ℕ) → Passes (distinctRefusal (edgesIn s) s (locationAt s (locationsIn s))) → Passes (checkOf s)
   unfolding checkOf
   check-passes s d = asked 2 (isWithin (length s) 4 656) _ (number 2 refl) (asked 3 (isWithin (byteAt s 0) 1 2) _ (number 3 refl)
       (asked 4 (isWithin (locationsIn s) 1 12 && (isWithin (clocksIn s) 1 (editionOf s .clocks) && isWithin (edgesIn s) 0 32))
-      (recordsCode (clocksIn s) (locationsIn s) (edgesIn s) s) (number 4 refl) (records-pass (clocksIn s) (locationsIn s) (edgesIn s) s d)))
+      (recordsRefusal (clocksIn s) (locationsIn s) (edgesIn s) s) (number 4 refl) (records-pass (clocksIn s) (locationsIn s) (edgesIn s) s d)))
 
 -- question 17 answers 0 or 17
-distinct-number : (e : ℕ) (s : List ℕ) (from : ℕ) → occurs (distinctCode e s from) checkNumbers ≡ true
-unfolding distinctCode
+distinct-number : (e : ℕ) (s : List ℕ) (from : ℕ) → occurs (distinctRefusal e s from) checkNumbers ≡ true
+unfolding distinctRefusal
 distinct-number e s from = by (each e (isNew s from))
   where
     by : (b : Bool) → occurs (ask 17 b 0) checkNumbers ≡ true
@@ -96,10 +96,10 @@ unfolding every
 check-number s = check-passes (λ r. occurs r checkNumbers) refl s (distinct-number (edgesIn s) s (locationAt s (locationsIn s)))
 
 -- and 17 only where question 17 does
-pub asked-17 : (s : List ℕ) → checkOf s ≡ 17 → distinctCode (edgesIn s) s (locationAt s (locationsIn s)) ≡ 17
+pub asked-17 : (s : List ℕ) → checkOf s ≡ 17 → distinctRefusal (edgesIn s) s (locationAt s (locationsIn s)) ≡ 17
 unfolding every
 asked-17 s h =
-    let distinct = distinctCode (edgesIn s) s (locationAt s (locationsIn s)) in
+    let distinct = distinctRefusal (edgesIn s) s (locationAt s (locationsIn s)) in
     by-bool (eqb distinct 17) (eqb-true distinct 17)
     (λ n. clash (check-passes (λ r. not (eqb r 17)) refl s (ap not n)) (ap (λ (r : ℕ). not (eqb r 17)) h))
 

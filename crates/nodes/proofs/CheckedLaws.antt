@@ -17,8 +17,8 @@ use Rattle.automaton.proofs.Tests.{&&-right, &&-intro}
 use Rattle.sheet.specs.Bytes.{byteAt, signedOf}
 use Rattle.sheet.specs.Fields.{Edition, boundBit, upperBit, costInRange, inRange, fieldOf}
 use Rattle.sheet.specs.Records.{fieldAt, boundAt, recordAt, editionOf, locationAt, edgeAt, locationsIn, clocksIn, edgesIn}
-use Rattle.sheet.specs.Questions.{orElse, each, firstOf, whereThere, fieldGood, mapCode, fieldsCode, boundsCode, endsCode, locationCode, edgeCode, distinctCode, startCode}
-use Rattle.sheet.specs.Questions.{restCode, recordsCode, checkOf}
+use Rattle.sheet.specs.Questions.{orElse, each, firstOf, whereThere, fieldGood, mapRefusal, fieldsRefusal, boundsRefusal, endsRefusal, locationRefusal, edgeRefusal, distinctRefusal, startRefusal}
+use Rattle.sheet.specs.Questions.{restRefusal, recordsRefusal, checkOf}
 use Rattle.sheet.specs.declared.fields.Kind.{Kind}
 use Rattle.sheet.specs.declared.fields.Kind.the-variants.{LocationRecord, EdgeRecord}
 use Rattle.sheet.specs.declared.fields.Field.the-variants.{Upper}
@@ -34,53 +34,53 @@ use Rattle.nodes.proofs.LayoutLaws.{room-for}
 -- ---- the records
 
 pub record Parts (s : List ℕ) : Type 0 where
-  pub locations : (i : ℕ) → i < locationsIn s → locationCode (clocksIn s) s (locationAt s i) ≡ 0
-  pub edges : (e : ℕ) → e < edgesIn s → edgeCode (clocksIn s) (locationsIn s) s (edgeAt s e) ≡ 0
-  pub distinct : distinctCode (edgesIn s) s (locationAt s (locationsIn s)) ≡ 0
-  pub start : startCode (clocksIn s) s ≡ 0
+  pub locations : (i : ℕ) → i < locationsIn s → locationRefusal (clocksIn s) s (locationAt s i) ≡ 0
+  pub edges : (e : ℕ) → e < edgesIn s → edgeRefusal (clocksIn s) (locationsIn s) s (edgeAt s e) ≡ 0
+  pub distinct : distinctRefusal (edgesIn s) s (locationAt s (locationsIn s)) ≡ 0
+  pub start : startRefusal (clocksIn s) s ≡ 0
 
-pub parts : (s : List ℕ) → recordsCode (clocksIn s) (locationsIn s) (edgesIn s) s ≡ 0 → Parts s
-unfolding recordsCode restCode
+pub parts : (s : List ℕ) → recordsRefusal (clocksIn s) (locationsIn s) (edgesIn s) s ≡ 0 → Parts s
+unfolding recordsRefusal restRefusal
 parts s h = record {
   locations = first-at (locationsIn s) ofLocation (or-left (firstOf (locationsIn s) ofLocation) _ h);
   edges = first-at (edgesIn s) ofEdge (or-left (firstOf (edgesIn s) ofEdge) _ (or-right (firstOf (locationsIn s) ofLocation) _ h));
-  distinct = or-left distinct (startCode (clocksIn s) s) after-10;
-  start = or-right distinct (startCode (clocksIn s) s) after-10;
+  distinct = or-left distinct (startRefusal (clocksIn s) s) after-10;
+  start = or-right distinct (startRefusal (clocksIn s) s) after-10;
 }
   where
     distinct : ℕ
-    distinct = distinctCode (edgesIn s) s (locationAt s (locationsIn s))
+    distinct = distinctRefusal (edgesIn s) s (locationAt s (locationsIn s))
 
     ofLocation : ℕ → ℕ
-    ofLocation i = locationCode (clocksIn s) s (locationAt s i)
+    ofLocation i = locationRefusal (clocksIn s) s (locationAt s i)
 
     ofEdge : ℕ → ℕ
-    ofEdge e = edgeCode (clocksIn s) (locationsIn s) s (edgeAt s e)
+    ofEdge e = edgeRefusal (clocksIn s) (locationsIn s) s (edgeAt s e)
 
-    after-10 : orElse distinct (startCode (clocksIn s) s) ≡ 0
-    after-10 = ask-rest 9 (eqb (edgeAt s (edgesIn s)) (length s)) (orElse distinct (startCode (clocksIn s) s))
+    after-10 : orElse distinct (startRefusal (clocksIn s) s) ≡ 0
+    after-10 = ask-rest 9 (eqb (edgeAt s (edgesIn s)) (length s)) (orElse distinct (startRefusal (clocksIn s) s))
         (or-right (firstOf (edgesIn s) ofEdge) _ (or-right (firstOf (locationsIn s) ofLocation) _ h))
 
 -- ---- the fields of a record
 
-fields-good : (kind : Kind) (k : ℕ) (s : List ℕ) (at : ℕ) → fieldsCode kind k s at ≡ 0 → (b : ℕ) → b < 16 → fieldGood kind k s at b ≡ true
-unfolding fieldsCode
+fields-good : (kind : Kind) (k : ℕ) (s : List ℕ) (at : ℕ) → fieldsRefusal kind k s at ≡ 0 → (b : ℕ) → b < 16 → fieldGood kind k s at b ≡ true
+unfolding fieldsRefusal
 fields-good kind k s at h = each-at 16 (fieldGood kind k s at) (ask-yes 7 (each 16 (fieldGood kind k s at)) 0 h)
 
-location-good : (k : ℕ) (s : List ℕ) (at : ℕ) → locationCode k s at ≡ 0 → (b : ℕ) → b < 16 → fieldGood LocationRecord k s at b ≡ true
-unfolding locationCode
-location-good k s at h = fields-good LocationRecord k s at (or-right (boundsCode k s at) _ (or-right (mapCode LocationRecord k s at) _ h))
+location-good : (k : ℕ) (s : List ℕ) (at : ℕ) → locationRefusal k s at ≡ 0 → (b : ℕ) → b < 16 → fieldGood LocationRecord k s at b ≡ true
+unfolding locationRefusal
+location-good k s at h = fields-good LocationRecord k s at (or-right (boundsRefusal k s at) _ (or-right (mapRefusal LocationRecord k s at) _ h))
 
-pub edge-good : (k l : ℕ) (s : List ℕ) (at : ℕ) → edgeCode k l s at ≡ 0 → (b : ℕ) → b < 16 → fieldGood EdgeRecord k s at b ≡ true
-unfolding edgeCode
-edge-good k l s at h = fields-good EdgeRecord k s at (or-left (fieldsCode EdgeRecord k s at) _ (or-right (mapCode EdgeRecord k s at) _ h))
+pub edge-good : (k l : ℕ) (s : List ℕ) (at : ℕ) → edgeRefusal k l s at ≡ 0 → (b : ℕ) → b < 16 → fieldGood EdgeRecord k s at b ≡ true
+unfolding edgeRefusal
+edge-good k l s at h = fields-good EdgeRecord k s at (or-left (fieldsRefusal EdgeRecord k s at) _ (or-right (mapRefusal EdgeRecord k s at) _ h))
 
-edge-ends : (k l : ℕ) (s : List ℕ) (at : ℕ) → edgeCode k l s at ≡ 0 → byteAt s (at + 3) < l
-unfolding edgeCode endsCode
+edge-ends : (k l : ℕ) (s : List ℕ) (at : ℕ) → edgeRefusal k l s at ≡ 0 → byteAt s (at + 3) < l
+unfolding edgeRefusal endsRefusal
 edge-ends k l s at h =
     let ends = ltb (byteAt s (at + 2)) l && ltb (byteAt s (at + 3)) l in
     ltb-true (byteAt s (at + 3)) l (&&-right (ltb (byteAt s (at + 2)) l) (ltb (byteAt s (at + 3)) l)
-    (ask-yes 8 ends 0 (or-right (fieldsCode EdgeRecord k s at) _ (or-right (mapCode EdgeRecord k s at) _ h))))
+    (ask-yes 8 ends 0 (or-right (fieldsRefusal EdgeRecord k s at) _ (or-right (mapRefusal EdgeRecord k s at) _ h))))
 
 module _ (kind : Kind) (k : ℕ) (s : List ℕ) (at : ℕ) where
   -- a field of bit b whose range keeps v in P, and what stands for an absent one
@@ -121,8 +121,8 @@ unfolding every zipWith
 zeros-inside f zero h = refl
 zeros-inside f (suc n) h = &&-intro (lt-ltb 0 (f 0) (h 0 (omega arith))) (zeros-inside (λ j. f (suc j)) n (λ i l. h (suc i) (omega arith)))
 
-start-bounds : (k : ℕ) (s : List ℕ) → startCode k s ≡ 0 → (j : ℕ) → j < k → 0 < boundAt s 4 j
-unfolding startCode
+start-bounds : (k : ℕ) (s : List ℕ) → startRefusal k s ≡ 0 → (j : ℕ) → j < k → 0 < boundAt s 4 j
+unfolding startRefusal
 start-bounds k s h j l =
     ltb-true 0 (boundAt s 4 j) (each-at k (λ j. ltb 0 (boundAt s 4 j)) (ask-yes 10 (each k (λ j. ltb 0 (boundAt s 4 j))) 0 h) j l)
 

@@ -7,7 +7,7 @@ use Prim.Native.Nat.{ℕ, suc, _<_}
 use native.Mathlib.Omega.{arith}
 use borrow.Author.Tests.{not-false}
 use Rattle.sheet.specs.Records.{recordAt, locationAt, edgeAt, locationsIn, clocksIn, edgesIn}
-use Rattle.sheet.specs.Questions.{ask, each, edgeCode, sameRecord, distinctCode, checkOf}
+use Rattle.sheet.specs.Questions.{ask, each, edgeRefusal, sameRecord, distinctRefusal, checkOf}
 use Rattle.sheet.specs.Decoded.{edgeOf, readOf}
 use Rattle.sheet.specs.declared.fields.Kind.the-variants.{EdgeRecord}
 use Rattle.sheet.specs.declared.Sheet.{Sheet}
@@ -27,8 +27,8 @@ answered-no n false h = refl
 
 module _ (e : ℕ) (s : List ℕ) (from : ℕ) where
   -- records that are refused have an edge twice
-  pub same-edges : distinctCode e s from ≡ 17 → SameEdges e s from
-  unfolding distinctCode
+  pub same-edges : distinctRefusal e s from ≡ 17 → SameEdges e s from
+  unfolding distinctRefusal
   same-edges h =
       let (j, below, among) = each-not e (isNew s from) (answered-no 16 (each e (isNew s from)) h) in
       let (i, before, found) = each-not j (differs s from j) among in
@@ -36,8 +36,8 @@ module _ (e : ℕ) (s : List ℕ) (from : ℕ) where
       record { first = i; second = j; before = before; below = below; same = same }
 
   -- and those that have one are refused, where each passes its own questions
-  pub edges-refused : OfBytes s → (k l : ℕ) → ((i : ℕ) → i < e → edgeCode k l s (recordAt EdgeRecord s from i) ≡ 0) → SameEdges e s from
-      → distinctCode e s from ≡ 17
+  pub edges-refused : OfBytes s → (k l : ℕ) → ((i : ℕ) → i < e → edgeRefusal k l s (recordAt EdgeRecord s from i) ≡ 0) → SameEdges e s from
+      → distinctRefusal e s from ≡ 17
   edges-refused ok k l passed w = sym (twice e s from (w .first) (w .second) (w .before) (w .below)
       (ap not (same-bytes s ok k l (begins s from (w .first)) (begins s from (w .second)) (passed (w .first) (omega arith)) (passed (w .second) (w .below)) (w .same))))
 

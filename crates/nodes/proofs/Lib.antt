@@ -10,3 +10,4 @@ pub mod CheckNumberLaws
 pub mod RecordBytes
 pub mod SameEdgeLaws
 pub mod DistinctLaws
+pub mod Examples

@@ -59,7 +59,7 @@ module _ (s : List ℕ) (p q : ℕ) where
   value-alike ok (suc zero) e = word-alike ok e
   value-alike ok (suc (suc b)) e = one s p q (sym (value-byte s p (suc (suc b)) (omega arith)) ∙ e ∙ value-byte s q (suc (suc b)) (omega arith))
 
-  -- ---- a field: it has bytes where its bit stands
+  -- ---- a field: it has bytes where its bit is set
 
   alike-field : (m b : ℕ) → Alike s p q (bitOf m b * widthOf b) → fieldHere s p m b ≡ fieldHere s q m b
   alike-field m b h = by-bit m b

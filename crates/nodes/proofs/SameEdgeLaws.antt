@@ -1,4 +1,4 @@
--- Edge records that pass their questions are the same bytes just where they are read as the same edge.
+-- Edge records that pass their questions are the same bytes if and only if they are read as the same edge.
 use mathlib.Core.Path.{_≡_, refl, sym, ap, subst, _∙_}
 use mathlib.Core.Bool.{Bool, true, false, cond}
 use mathlib.Core.List.{List}
@@ -17,7 +17,7 @@ use Rattle.sheet.specs.Bytes.{byteAt, wordAt, signedOf}
 use Rattle.sheet.specs.Maps.{stands, placeOf}
 use Rattle.sheet.specs.Fields.{Edition, lowerBit, upperBit, ofClock, fieldOf, costInRange, inRange}
 use Rattle.sheet.specs.Records.{fieldPlace, valueAt, fieldAt, recordLength, editionOf}
-use Rattle.sheet.specs.Questions.{whereThere, fieldGood, edgeCode, sameRecord}
+use Rattle.sheet.specs.Questions.{whereThere, fieldGood, edgeRefusal, sameRecord}
 use Rattle.sheet.specs.Decoded.{clockBytes, edgeOf}
 use Rattle.sheet.specs.declared.fields.Kind.the-variants.{EdgeRecord}
 use Rattle.sheet.specs.declared.fields.Field.{Field}
@@ -142,7 +142,7 @@ module _ (s : List ℕ) (ok : OfBytes s) where
         (λ j h. by-read (upperBit (editionOf s) + j) 255 (Upper j) refl (clock-told (upperBit (editionOf s)) 255 (ap (λ (z : Edge). z .upper) e) j h))
         (λ b. none-passes (fieldAt EdgeRecord s x b) (fieldAt EdgeRecord s y b))
 
-  pub same-bytes : (k l x y : ℕ) → edgeCode k l s x ≡ 0 → edgeCode k l s y ≡ 0 → edgeOf s x ≡ edgeOf s y → sameRecord s x y ≡ true
+  pub same-bytes : (k l x y : ℕ) → edgeRefusal k l s x ≡ 0 → edgeRefusal k l s y ≡ 0 → edgeOf s x ≡ edgeOf s y → sameRecord s x y ≡ true
   unfolding fieldGood fieldAt fieldPlace recordLength
   same-bytes k l x y f g e = alike-all s x y (ap (λ (m : ℕ). 4 + placeOf m 16) map)
       (join s x y 4 (placeOf (wordAt s x) 16)

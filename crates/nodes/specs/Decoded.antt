@@ -14,7 +14,7 @@ use Rattle.sheet.specs.declared.Edge.{Edge}
 use Rattle.sheet.specs.declared.Sheet.{Sheet}
 use Rattle.nodes.specs.Numbers.{Layout, layoutAt}
 
--- so many clocks, or the most that the edition has
+-- the clocks of a sheet, or the most that its edition has
 abbrev pub fewClocks : ℕ → ℕ → ℕ
 fewClocks edition k = min k (editionAt edition .clocks)
 

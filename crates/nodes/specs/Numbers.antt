@@ -9,7 +9,7 @@ use Rattle.automaton.specs.Priced.{Priced}
 use Rattle.automaton.specs.Nodes.{Node, isNode, startNode}
 use Rattle.automaton.specs.Steps.{step}
 
--- where an edition has the parts of a node: so many bits for a class and for the corner, and the bit where the location begins
+-- where an edition has the parts of a node: how many bits a class and the corner have, and the bit where the location begins
 pub record Layout : Type 0 where
   pub bits : ℕ
   pub location : ℕ
@@ -33,7 +33,7 @@ classAt y j = y .bits + (y .bits + 4) * j
 abbrev pub wholeAt : Layout → ℕ → ℕ
 wholeAt y j = classAt y j + y .bits
 
--- v in so many bits from the bit `at` on; what has no room there is left out, and no part of a node is that large
+-- v in `width` bits from the bit `at` on; what has no room there is left out, and no part of a node is that large
 abbrev pub put : ℕ → ℕ → ℕ → ℕ
 put v width at = v % 2 ^ width * 2 ^ at
 
@@ -47,7 +47,7 @@ clocksFrom y j (h ∷ hs) (k ∷ ks) = put k (y .bits) (classAt y j) + put h 4 (
 unfoldable pub number : Layout → Node → ℕ
 number y u = put (u .corner) (y .bits) 0 + clocksFrom y 0 (u .region .whole) (u .region .class) + put (u .location) 4 (y .location)
 
--- so many bits of x from the bit `at` on
+-- `width` bits of x from the bit `at` on
 abbrev pub bitsOf : ℕ → ℕ → ℕ → ℕ
 bitsOf x width at = x / 2 ^ at % 2 ^ width
 
@@ -56,7 +56,7 @@ unfoldable pub listFrom : (ℕ → ℕ) → ℕ → ℕ → List ℕ
 listFrom f j zero = []
 listFrom f j (suc n) = f j ∷ listFrom f (suc j) n
 
--- and back, for so many clocks
+-- and back, for this number of clocks
 unfoldable pub nodeOf : Layout → ℕ → ℕ → Node
 nodeOf y clocks x = record {
   location = bitsOf x 4 (y .location);

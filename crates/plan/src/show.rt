@@ -2,7 +2,7 @@
 use libc::STDOUT_FILENO;
 use planner::Answer;
 
-fn word(text: &[u8]) {
+fn print(text: &[u8]) {
     io::write_all(STDOUT_FILENO, text);
 }
 
@@ -12,16 +12,16 @@ fn number(x: u64) {
 
 // The ratio and the number of nodes.
 fn accepted(p: i64, q: u64, n: u64) {
-    word(b"ratio ");
+    print(b"ratio ");
     if p < 0 {
-        word(b"-");
+        print(b"-");
     }
     number(signs::magnitude(p));
-    word(b" ");
+    print(b" ");
     number(q);
-    word(b"\nnodes ");
+    print(b"\nnodes ");
     number(n);
-    word(b"\n");
+    print(b"\n");
 }
 
 pub(crate) fn answer(answer: Answer) {
@@ -29,7 +29,7 @@ pub(crate) fn answer(answer: Answer) {
         accepted(answer.p, answer.q as u64, answer.n as u64);
         return;
     }
-    word(b"refused ");
+    print(b"refused ");
     number(answer.refusal as u64);
-    word(b"\n");
+    print(b"\n");
 }

@@ -63,7 +63,7 @@ module _ {F T C : List ℕ} {Z : List ℤ} {R order tree cycle : List ℕ} {n k 
   -- its last arcs
   pub arcs-summable : {i j : ℕ} → i ≤ s + k → j ≡ s + k → Summable C Z R arcs' i j
   arcs-summable h e = record {
-    order = omega arith;
+    ordered = omega arith;
     room = omega (arith, room);
     few = omega (arith, short, c .formed .few);
     codes = λ i l. omega (arith, arc i (omega arith), c .codes);

@@ -86,7 +86,7 @@ pub record Solved (F T C : List ℕ) (Z : List ℤ) (R order : List ℕ) (D : Li
 
 -- the arcs from one place up to another are there, and few enough for their sums to fit
 pub record Summable (C : List ℕ) (Z : List ℤ) (R arcs : List ℕ) (from to : ℕ) : Type 0 where
-  pub order : from ≤ to
+  pub ordered : from ≤ to
   pub room : to ≤ length arcs
   pub few : to ≤ 2048
   pub codes : (i : ℕ) → i < to → at arcs i < length C

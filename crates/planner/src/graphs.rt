@@ -7,7 +7,8 @@ ghost use Rattle.planner.specs.PrivatePromises.{Handed, OfSheet, Cyclic,
 use crate::Answer;
 use ratio::RatioAnswer;
 
-// The lasso of a cycle of the least ratio p / q, its sums and the buffers. The first k entries of cycle are its arcs, least has the potentials.
+// The lasso of a cycle of the least ratio p / q, its sums and the buffers. The first k entries of cycle are its arcs, and
+// potential has the nodes' potentials in the order of discovery.
 fn accept(
     from: &[u16],
     to: &[u16],
@@ -17,7 +18,7 @@ fn accept(
     order: &[u16],
     tree: &[usize],
     n: usize,
-    least: &[i64],
+    potential: &[i64],
     cycle: &[usize],
     k: usize,
     p: i64,
@@ -27,9 +28,9 @@ fn accept(
     steps: &mut [u16],
 ) -> Answer
     requires { ⌜ Cyclic (now from) (now to) (now code) (now cost) (now reward) (now order) (now tree) (now cycle) n k ⌝ ∗
-        ⌜ n ≤ length (now least) ⌝ ∗ ⌜ q ≤ 20480000 ⌝ ∗ ⌜ LongEnough (lentBuffers (now nodes) (now potentials) (now steps)) ⌝ }
+        ⌜ n ≤ length (now potential) ⌝ ∗ ⌜ q ≤ 20480000 ⌝ ∗ ⌜ LongEnough (lentBuffers (now nodes) (now potentials) (now steps)) ⌝ }
     ensures { λ r. ⌜ ((o : Solved (now (from .entry)) (now (to .entry)) (now (code .entry)) (now (cost .entry)) (now (reward .entry)) (now (order .entry))
-        (now (least .entry)) (now (cycle .entry)) n k p q (lentBuffers (now (nodes .entry)) (now (potentials .entry)) (now (steps .entry))))
+        (now (potential .entry)) (now (cycle .entry)) n k p q (lentBuffers (now (nodes .entry)) (now (potentials .entry)) (now (steps .entry))))
         → PlannedButForClearing (o .of-sheet .bytes) (o .of-sheet .before) (lentBuffers (now (nodes .exit)) (now (potentials .exit)) (now (steps .exit))) (answerOf r)) ⌝ }
 {
     let mut arcs = [0usize; 4096];
@@ -40,9 +41,9 @@ fn accept(
     };
     let all = s + k;
     buffers::clear_u64(nodes, n);
-    crate::output::permute(least, order, n, potentials);
+    crate::output::permute(potential, order, n, potentials);
     buffers::clear_i64(potentials, n);
-    crate::output::encode(code, &arcs, all, steps);
+    crate::output::write_codes(code, &arcs, all, steps);
     buffers::clear_u16(steps, all);
     let sums = crate::sums::sums_of(code, cost, reward, &arcs, s, all);
     crate::output::accepted(p, q, n, s, k, sums)
@@ -67,9 +68,9 @@ pub(crate) fn plan_graph(
         (lentBuffers (now (nodes .entry)) (now (potentials .entry)) (now (steps .entry))))
         → PlannedButForClearing (o .bytes) (o .before) (lentBuffers (now (nodes .exit)) (now (potentials .exit)) (now (steps .exit))) (answerOf r)) ⌝ }
 {
-    let mut least = [0i64; 2048];
+    let mut potential = [0i64; 2048];
     let mut cycle = [0usize; 2048];
-    let verdict = ratio::least_ratio(from, to, cost, reward, n, &mut least, &mut cycle);
+    let verdict = ratio::least_ratio(from, to, cost, reward, n, &mut potential, &mut cycle);
     match verdict {
         RatioAnswer::NoneEarns => crate::output::refused(13),
         RatioAnswer::IdleGain => crate::output::refused(14),
@@ -82,7 +83,7 @@ pub(crate) fn plan_graph(
             order,
             tree,
             n,
-            &least,
+            &potential,
             &cycle,
             k,
             p,

@@ -36,7 +36,7 @@ fn ask(sheet: &[u8], nodes: &mut [u64], potentials: &mut [i64], steps: &mut [u16
     if steps.len() < 2048 {
         return output::refused(1);
     }
-    let read = sheet::read(sheet);
+    let read = reader::read(sheet);
     let refusal = read.refusal;
     if refusal != 0 {
         return output::refused(refusal);

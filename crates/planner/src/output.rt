@@ -62,28 +62,28 @@ pub(crate) fn refuse(
     refused(refusal)
 }
 
-fn place(x: u16) -> usize
+fn as_index(x: u16) -> usize
     ensures { λ r. ⌜ r ≡ x ⌝ }
 {
     x as usize
 }
 
 // The first n potentials, in the order of output.
-pub(crate) fn permute(least: &[i64], order: &[u16], n: usize, potentials: &mut [i64])
-    requires { ⌜ Pickable (now least) (now order) n (now potentials) ⌝ }
-    ensures { λ _. ⌜ Picked (pos 0) (now (least .entry)) (now (order .entry)) n (now (potentials .entry)) (now (potentials .exit)) ⌝ }
+pub(crate) fn permute(potential: &[i64], order: &[u16], n: usize, potentials: &mut [i64])
+    requires { ⌜ Pickable (now potential) (now order) n (now potentials) ⌝ }
+    ensures { λ _. ⌜ Picked (pos 0) (now (potential .entry)) (now (order .entry)) n (now (potentials .entry)) (now (potentials .exit)) ⌝ }
 {
     let mut i = 0;
     while i < n {
-        let v = place(order[i]);
-        let x = least[v];
+        let v = as_index(order[i]);
+        let x = potential[v];
         potentials[i] = x;
         i += 1;
     }
 }
 
 // The codes of the first k arcs.
-pub(crate) fn encode(code: &[u16], arcs: &[usize], k: usize, steps: &mut [u16])
+pub(crate) fn write_codes(code: &[u16], arcs: &[usize], k: usize, steps: &mut [u16])
     requires { ⌜ Pickable (now code) (now arcs) k (now steps) ⌝ }
     ensures { λ _. ⌜ Picked 0 (now (code .entry)) (now (arcs .entry)) k (now (steps .entry)) (now (steps .exit)) ⌝ }
 {

@@ -18,7 +18,10 @@ fn units_of(code: u16) -> u16
     ensures { λ r. ⌜ r ≡ unitsOf code ⌝ ∗ ⌜ r ≤ 1 ⌝ }
 {
     match code {
+        0..=31 => 0,
         32 => 1,
+        33 => 0,
+        // No step has another code.
         _ => 0,
     }
 }

@@ -7,7 +7,7 @@ use lib.IntN.{ℤ, pos, negℤ, natAbs, _+ℤ_, _*ℤ_}
 use lib.Signed.{_<ℤ_}
 use Rattle.integers.proofs.Parts.{up, dn, abs-parts, neg-up, neg-dn, lt-of, lt-parts, add-parts, mul-parts}
 use Rattle.integers.proofs.Products.{up-times, dn-times}
-use Rattle.integers.proofs.Fractions.{units, units-fall, raised}
+use Rattle.integers.proofs.Fractions.{swap, units, units-fall, raised}
 
 -- c / r + 20480000, which is not below 0, in parts of 20480000 squared: two different ratios with denominators up to 20480000 differ by such a part
 unfoldable pub height : ℤ → ℕ → ℕ
@@ -25,9 +25,6 @@ height-falls C c R r hR hr bR br bC bc h =
     units-fall 419430400000000 (up c + 20480000 * r - dn c) r (up C + 20480000 * R - dn C) R hr hR room
     (raised (up C) (dn C) (up c) (dn c) r R 20480000 (up c + 20480000 * r - dn c) (up C + 20480000 * R - dn C)
     (omega (arith, lt-parts (C *ℤ pos r) (c *ℤ pos R) h, right-times C r, right-times c R)) (omega (arith, abs-parts C)) (omega (arith, abs-parts c)))
-
-swap : (a b c : ℕ) → a * b * c ≡ a * c * b
-swap a b c = mul-assoc a b c ∙ ap (λ (z : ℕ). a * z) (mul-comm b c) ∙ sym (mul-assoc a c b)
 
 rot : (a b c : ℕ) → a * b * c ≡ c * a * b
 rot a b c = mul-comm (a * b) c ∙ sym (mul-assoc c a b)

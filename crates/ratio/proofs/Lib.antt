@@ -5,3 +5,4 @@ pub mod TurnLaws
 pub mod SumLaws
 pub mod SignLaws
 pub mod RatioAnswerLaws
+pub mod OneRatio

@@ -25,7 +25,8 @@ pub record RatioOf (cost : List ℤ) (reward c : List ℕ) (p : ℤ) (q : ℕ) :
   pub lowest : Lowest p q
 
 -- the first k entries of cycle are the arcs of a simple cycle that earns, with the ratio p / q, in order, and no cycle is below it; the first n of potential
--- are the nodes' potentials at that ratio; nothing else is written
+-- are the nodes' potentials at that ratio; nothing else is written. Left open is which of the simple cycles with this ratio stands there, and with that k,
+-- and at which of its nodes it begins; the answer's number, p, q and every potential are fixed: ratio/proofs/OneRatio.antt
 pub record RatioFound (F T : List ℕ) (cost : List ℤ) (reward : List ℕ) (n : ℕ) (p : ℤ) (q k : ℕ)
     (potential potential' : List ℤ) (cycle cycle' : List ℕ) : Type 0 where
   pub short : k ≤ n

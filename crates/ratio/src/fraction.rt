@@ -15,7 +15,7 @@ pub(crate) struct Fraction {
     pub(crate) q: u64,
 }
 
-fn cost_of(cost: &[i16], e: usize) -> i64
+fn cost_at(cost: &[i16], e: usize) -> i64
     requires { ⌜ e < length (now cost) ⌝ }
     ensures { λ r. ⌜ r ≡ atℤ (now (cost .entry)) e ⌝ ∗ ⌜ natAbs r ≤ 32768 ⌝ }
 {
@@ -29,7 +29,7 @@ fn add(x: i64, y: i64) -> i64
     x + y
 }
 
-fn reward_of(reward: &[u16], e: usize) -> u64
+fn reward_at(reward: &[u16], e: usize) -> u64
     requires { ⌜ e < length (now reward) ⌝ }
     ensures { λ r. ⌜ r ≡ at (now (reward .entry)) e ⌝ ∗ ⌜ r < 65536 ⌝ }
 {
@@ -46,7 +46,7 @@ fn cost_sum(cost: &[i16], arcs: &[usize], k: usize) -> i64
     let mut i = k;
     while 0 < i {
         i -= 1;
-        z = add(cost_of(cost, arcs[i]), z);
+        z = add(cost_at(cost, arcs[i]), z);
     }
     z
 }
@@ -61,7 +61,7 @@ pub(crate) fn reward_sum(reward: &[u16], arcs: &[usize], k: usize) -> u64
     let mut i = k;
     while 0 < i {
         i -= 1;
-        x = reward_of(reward, arcs[i]) + x;
+        x = reward_at(reward, arcs[i]) + x;
     }
     x
 }

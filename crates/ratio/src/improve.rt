@@ -46,6 +46,7 @@ fn search_below(
     };
     let found = graph::negative_cycle(from, to, cost, reward, below, nodes, potential, hand);
     match found {
+        // Never: the arguments are well formed.
         Answer::Malformed => Turn::Done(p, q),
         Answer::Cycle(j) => {
             let earned = crate::fraction::reward_sum(reward, hand, j);
@@ -92,7 +93,7 @@ fn settle(
 }
 
 // Question 14, and where it is answered yes the least ratio: the first k arcs in hand are a cycle that earns.
-pub(crate) fn beyond(
+pub(crate) fn least_from(
     from: &[u16],
     to: &[u16],
     cost: &[i16],

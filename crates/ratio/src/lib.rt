@@ -53,7 +53,7 @@ pub fn least_ratio(
     match found {
         graph::Answer::Malformed => RatioAnswer::Malformed,
         graph::Answer::Potentials => RatioAnswer::NoneEarns,
-        graph::Answer::Cycle(k) => improve::beyond(
+        graph::Answer::Cycle(k) => improve::least_from(
             from,
             to,
             cost,

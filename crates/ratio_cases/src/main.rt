@@ -41,11 +41,11 @@ fn run(name: &[u8], from: &[u16], to: &[u16], cost: &[i16], reward: &[u16], node
     io::write_all(STDOUT_FILENO, b"\n");
 }
 
-// One cycle through 2,048 nodes: each arc costs the same, the first earns `first`, the others `other`.
-fn ring(name: &[u8], price: i16, first: u16, other: u16) {
+// One cycle through 2,048 nodes: an arc costs `each`, the first earns `first`, the others `other`.
+fn ring(name: &[u8], each: i16, first: u16, other: u16) {
     let mut from = [0u16; 2048];
     let mut to = [0u16; 2048];
-    let cost = [price; 2048];
+    let cost = [each; 2048];
     let mut reward = [other; 2048];
     reward[0] = first;
     for i in 0..2048u16 {
@@ -53,6 +53,33 @@ fn ring(name: &[u8], price: i16, first: u16, other: u16) {
         to[i as usize] = (i + 1) % 2048;
     }
     run(name, &from, &to, &cost, &reward, 2048);
+}
+
+fn ratios() {
+    run(b"-6/4", &[0, 1], &[1, 0], &[-4, -2], &[2, 2], 2);
+    run(b"zero", &[0, 1], &[1, 0], &[-4, 4], &[2, 2], 2);
+    run(
+        b"two cycles",
+        &[0, 1, 1],
+        &[1, 0, 1],
+        &[3, 4, 3],
+        &[1, 1, 1],
+        2,
+    );
+    run(b"a loop at the start", &[0], &[0], &[7], &[21], 1);
+}
+
+fn without_cycles() {
+    run(b"no arc", &[], &[], &[], &[], 1);
+    run(b"a path", &[0, 1], &[1, 2], &[1, 1], &[1, 1], 3);
+    run(
+        b"a cycle that is not reached",
+        &[1, 2],
+        &[2, 1],
+        &[1, 1],
+        &[1, 1],
+        3,
+    );
 }
 
 // A loop that costs c and earns 5, and an idle one that costs d.
@@ -79,34 +106,23 @@ fn idle() {
     );
 }
 
-fn main() {
-    run(b"-6/4", &[0, 1], &[1, 0], &[-4, -2], &[2, 2], 2);
-    run(b"zero", &[0, 1], &[1, 0], &[-4, 4], &[2, 2], 2);
-    run(
-        b"two cycles",
-        &[0, 1, 1],
-        &[1, 0, 1],
-        &[3, 4, 3],
-        &[1, 1, 1],
-        2,
-    );
-    run(b"a loop at the start", &[0], &[0], &[7], &[21], 1);
-    run(b"no arc", &[], &[], &[], &[], 1);
-    run(b"a path", &[0, 1], &[1, 2], &[1, 1], &[1, 1], 3);
-    run(
-        b"a cycle that is not reached",
-        &[1, 2],
-        &[2, 1],
-        &[1, 1],
-        &[1, 1],
-        3,
-    );
-    idle();
+fn malformed() {
     run(b"an arc to no node", &[0], &[1], &[1], &[1], 1);
     run(b"no node", &[], &[], &[], &[], 0);
+}
+
+fn rings() {
     ring(b"largest cost", 10000, 1, 0);
     ring(b"least cost", -10000, 1, 0);
     ring(b"largest cost and reward", 10000, 10000, 10000);
     ring(b"a ring that earns nothing", 1, 0, 0);
     ring(b"a ring that makes money and earns nothing", -10000, 0, 0);
+}
+
+fn main() {
+    ratios();
+    without_cycles();
+    idle();
+    malformed();
+    rings();
 }

@@ -8,7 +8,7 @@ use lib.Pow.{pow-pos, pow-mono, shl-exact}
 use Rattle.sheet.proofs.MapLaws.{one-shl}
 use Rattle.nodes.specs.Numbers.{put}
 
--- so many low bits
+-- the low bits
 pub low-bits : (x width : ℕ) → width < 64 → bitAnd x (1 * 2 ^ width % 2 ^ 64 - 1) ≡ x % 2 ^ width
 low-bits x width h = ap (λ (m : ℕ). bitAnd x (m - 1)) (one-shl 64 width h) ∙ and-mask x width
 

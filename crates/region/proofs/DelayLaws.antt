@@ -80,7 +80,7 @@ module _ (e k : ℕ) (l : Location) (x : ℕ) where
   move-by b h = sym (ap (λ (b : Bool). answered 33 (Option·map (named (number y)) (cond b (only (inside A (riseTo u)) (free (riseTo u)))
       (only (ltb (u .corner) (largestClass u) && inside A (carryTo u)) (free (carryTo u)))))) h)
 
-  -- a free step to a node in arrays that has so many clocks
+  -- a free step to a node in arrays with this number of clocks
   abbrev lands : ℕ → Node → Stepped
   lands m n = answered 33 (only (boundsIn (l .upper) m (n .region)) (free (numberIn e n)))
 

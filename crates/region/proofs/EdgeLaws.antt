@@ -27,7 +27,7 @@ use Rattle.region.proofs.ClockLaws.{no-more}
 use Rattle.nodes.proofs.LayoutLaws.{few-le}
 use Rattle.region.proofs.NodeLaws.{Sized, sized, own-number, same-intervals, edge-arrays, edge-sized}
 
--- the region of arrays lies within the upper bytes just where the node does
+-- the region of arrays lies within the upper bytes if and only if the node does
 pub same-inside : (e k : ℕ) (edge : Edge) (l : Location) {u : automaton.Node} → Sized (fewClocks e k) u
     → boundsIn (l .upper) (fewClocks e k) (inArrays u .region) ≡ inside (alone e k edge l) u
 unfolding boundsIn inBounds alone

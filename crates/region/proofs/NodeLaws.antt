@@ -39,7 +39,7 @@ list-below b z f h j zero i = z
 list-below b z f h j (suc n) zero = h j
 list-below b z f h j (suc n) (suc i) = list-below b z f h (suc j) n i
 
--- a node with so many clocks
+-- a node with a given number of clocks
 pub record Sized (k : ℕ) (u : automaton.Node) : Type 0 where
   pub wholes : length (u .region .whole) ≡ k
   pub classes : length (u .region .class) ≡ k
@@ -51,7 +51,7 @@ sized y k x = record {
   classes = list-long (λ j. bitsOf x (y .bits) (classAt y j)) 0 k;
 }
 
--- a list of parts of x, each in at most so many bits
+-- a list of parts of x, each in at most a given number of bits
 parts-below : (x width most : ℕ) → width ≤ most → (at : ℕ → ℕ) (k j : ℕ)
     → getD (padTo 4 (listFrom (λ i. bitsOf x width (at i)) 0 k)) j 0 < 2 ^ most
 parts-below x width most h at k = pad-below (2 ^ most) 4 (listFrom (λ i. bitsOf x width (at i)) 0 k) (pow-pos most)

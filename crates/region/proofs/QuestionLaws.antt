@@ -48,7 +48,7 @@ module _ (e k : ℕ) (l : Location) (x : ℕ) where
       let g = largest-pad 4 (u .region .class) small in
       ap₂ _&&_ (ap₂ eqb (ap (rank (inArrays u .region .class)) g ∙ rank-pad 4 (u .region .class) small (largest (u .region .class))) g) (ap (leb (u .corner)) g)
 
-  -- the parts, by a node in arrays that has so many clocks
+  -- the parts, by a node in arrays with this number of clocks
   abbrev asked : ℕ → Node → Bool
   asked m n = eqb (numberIn e n) x && (isCornered (n .region .class) (n .corner) && boundsIn (l .upper) m (n .region))
 

@@ -37,7 +37,7 @@ fromArrays clocks n = record {
   corner = n .corner;
 }
 
--- by the edition: the node of a number, for so many clocks, and the number of a node
+-- by the edition: the node of a number, for this number of clocks, and the number of a node
 abbrev pub nodeIn : ℕ → ℕ → ℕ → Node
 nodeIn e clocks x = inArrays (nodeOf (layoutAt e) clocks x)
 

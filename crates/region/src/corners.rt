@@ -23,7 +23,7 @@ fn is_cornered(class: [u8; 4], corner: u8) -> bool
     corner <= g
 }
 
-// Whether the number is that of a node, by its location's record. Takes for granted that the sheet has that edition, so many clocks and the location
+// Whether the number is that of a node, by its location's record. Takes for granted that the sheet has that edition, that number of clocks and the location
 // that the number tells, and that `location` is that one's record.
 pub fn is_number(number: u64, edition: u8, clocks: u8, location: Location) -> bool
     ensures { λ r. ⌜ r ≡ isNumber (layoutAt edition) (alone edition clocks blankEdge location) number ⌝ }

@@ -17,7 +17,7 @@ use crate::Stepped;
 use sheet::Location;
 
 // Question 16 of one unit of delay. Takes for granted that the number is that of a node of the sheet (question 15 is not asked), that the sheet has
-// that edition and so many clocks, and that `location` is the record of the node's location.
+// that edition and that number of clocks, and that `location` is the record of the node's location.
 pub fn unit_step(number: u64, edition: u8, clocks: u8, location: Location) -> Stepped
     ensures { λ r. ⌜ r ≡ answered 32 (stepBy (layoutAt edition) (alone edition clocks blankEdge location) number 32) ⌝ }
 {
@@ -26,10 +26,10 @@ pub fn unit_step(number: u64, edition: u8, clocks: u8, location: Location) -> St
     let region = node.region;
     let ranks = region.class;
     if crate::ranks::occurs_in(ranks, k, 0) {
-        return crate::not_allowed();
+        return crate::refused(16);
     }
     if node.corner != crate::ranks::largest_of(ranks) {
-        return crate::not_allowed();
+        return crate::refused(16);
     }
     let next = Node {
         location: node.location,
@@ -142,7 +142,7 @@ fn land(node: Node, upper: [u8; 4], edition: u8, clocks: usize) -> Stepped
     ensures { λ r. ⌜ r ≡ answered 33 (only (boundsIn upper clocks (node .region)) (free (numberIn edition node))) ⌝ }
 {
     if !crate::bounds::inside(node.region, upper, clocks) {
-        return crate::not_allowed();
+        return crate::refused(16);
     }
     Stepped {
         refusal: 0,
@@ -169,5 +169,5 @@ pub fn move_step(number: u64, edition: u8, clocks: u8, location: Location) -> St
     if node.corner < g {
         return land(after_carry(node, g), upper, edition, k);
     }
-    crate::not_allowed()
+    crate::refused(16)
 }

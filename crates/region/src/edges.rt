@@ -60,7 +60,7 @@ pub(crate) fn after_edge(node: Node, target: u8, reset: u8) -> Node
 }
 
 // Question 16 of an edge, by its record and that of its target. Takes for granted that the number is that of a node of the sheet (question 15 is
-// not asked), that the sheet has that edition, the edge and so many clocks, and that `target` is the record of the location that the edge leads to.
+// not asked), that the sheet has that edition, the edge and that number of clocks, and that `target` is the record of the location that the edge leads to.
 pub fn edge_step(number: u64, edition: u8, clocks: u8, edge: Edge, target: Location) -> Stepped
     ensures { λ r. ⌜ r ≡ answered 0 (stepBy (layoutAt edition) (alone edition clocks edge target) number 0) ⌝ }
 {

@@ -13,19 +13,19 @@ pub(crate) fn edge_first(number: u64, clocks: u8, edge: Edge, target: Location) 
     ensures { λ r. ⌜ r ≡ answered 0 (stepBy firstLayout (alone 1 clocks edge target) number 0) ⌝ }
 {
     if edge.source != crate::location_in(number, 1) {
-        return crate::not_allowed();
+        return crate::refused(16);
     }
     let k = crate::few(1, clocks);
     let node = crate::numbers::unpack_first(number, k);
     let lower = edge.lower;
     let upper = edge.upper;
     if !crate::bounds::guards_hold(node.region, lower, upper, k) {
-        return crate::not_allowed();
+        return crate::refused(16);
     }
     let next = crate::edges::after_edge(node, edge.target, edge.reset);
     let bounds = target.upper;
     if !crate::bounds::inside(next.region, bounds, k) {
-        return crate::not_allowed();
+        return crate::refused(16);
     }
     Stepped {
         refusal: 0,

@@ -35,12 +35,12 @@ pub struct Stepped {
     pub units: u16,
 }
 
-// Question 16 answered no.
-pub fn not_allowed() -> Stepped
-    ensures { λ r. ⌜ r ≡ refusedStep 16 ⌝ }
+// A refusal, and nothing else.
+pub fn refused(refusal: u8) -> Stepped
+    ensures { λ r. ⌜ r ≡ refusedStep refusal ⌝ }
 {
     Stepped {
-        refusal: 16,
+        refusal,
         number: 0,
         cost: 0,
         reward: 0,
@@ -58,11 +58,11 @@ pub fn location_in(number: u64, edition: u8) -> u8
     numbers::bits(number, 4, 31)
 }
 
-// So many clocks, or the most that the edition has.
+// The clocks of a sheet, or the most that its edition has.
 pub(crate) fn few(edition: u8, clocks: u8) -> usize
     ensures { λ r. ⌜ (r ≡ fewClocks edition clocks) × (r ≤ 4) ⌝ }
 {
-    let most = sheet::most_clocks(edition);
+    let most = editions::most_clocks(edition);
     if clocks < most {
         clocks as usize
     } else {

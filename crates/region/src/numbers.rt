@@ -7,7 +7,7 @@ ghost use Rattle.region.specs.Arrays.{inArrays, fromArrays, nodeIn, numb
 use crate::Node;
 use crate::Region;
 
-// So many bits of x from the bit `at` on.
+// `width` bits of x from the bit `at` on.
 pub(crate) fn bits(x: u64, width: u32, at: u32) -> u8
     requires { ⌜ (width ≤ 4) × (at < 64) ⌝ }
     ensures { λ r. ⌜ r ≡ bitsOf x width at ⌝ }
@@ -73,7 +73,7 @@ pub(crate) fn unpack_second(x: u64, clocks: usize) -> Node
     }
 }
 
-// The node of a number, for so many clocks.
+// The node of a number, for this number of clocks.
 pub(crate) fn unpack(x: u64, edition: u8, clocks: usize) -> Node
     requires { ⌜ clocks ≤ editionAt edition .clocks ⌝ }
     ensures { λ r. ⌜ r ≡ nodeIn edition clocks x ⌝ }
@@ -84,7 +84,7 @@ pub(crate) fn unpack(x: u64, edition: u8, clocks: usize) -> Node
     unpack_second(x, clocks)
 }
 
-// v in so many bits from the bit `at` on, above the bits of x.
+// v in `width` bits from the bit `at` on, above the bits of x.
 fn with_part(x: u64, v: u8, width: u32, at: u32) -> u64
     requires { ⌜ (x < 2 ^ at) × ((width ≤ 4) × (at ≤ 60)) ⌝ }
     ensures { λ r. ⌜ r ≡ x + put v width at ⌝ }

@@ -12,19 +12,19 @@ pub(crate) fn edge_second(number: u64, clocks: u8, edge: Edge, target: Location)
     ensures { λ r. ⌜ r ≡ answered 0 (stepBy secondLayout (alone 2 clocks edge target) number 0) ⌝ }
 {
     if edge.source != crate::location_in(number, 2) {
-        return crate::not_allowed();
+        return crate::refused(16);
     }
     let k = crate::few(2, clocks);
     let node = crate::numbers::unpack_second(number, k);
     let lower = edge.lower;
     let upper = edge.upper;
     if !crate::bounds::guards_hold(node.region, lower, upper, k) {
-        return crate::not_allowed();
+        return crate::refused(16);
     }
     let next = crate::edges::after_edge(node, edge.target, edge.reset);
     let bounds = target.upper;
     if !crate::bounds::inside(next.region, bounds, k) {
-        return crate::not_allowed();
+        return crate::refused(16);
     }
     Stepped {
         refusal: 0,

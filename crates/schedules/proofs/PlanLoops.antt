@@ -17,7 +17,7 @@ pub plan-loop : {A : Automaton} {stem cycle : List Pair} {c : ℤ} {r : ℕ} →
 plan-loop {A} {stem} {cycle} {c} {r} h = record {
   i = length S;
   j = length S + length C;
-  order = omega arith;
+  ordered = omega arith;
   first = record { to = h .state; cost = h .stem-cost; reward = h .stem-reward };
   last = record { to = h .state; cost = h .stem-cost +ℤ c; reward = h .stem-reward + r };
   place-i = ap (run A 1 (startState A)) (take-append-seam S C) ∙ h .comes .is-run;

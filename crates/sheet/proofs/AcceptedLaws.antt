@@ -8,7 +8,7 @@ use lib.ListN.{length}
 use Rattle.sheet.specs.Bytes.{byteAt}
 use Rattle.sheet.specs.Fields.{isWithin}
 use Rattle.sheet.specs.Records.{editionOf, locationsIn, clocksIn, edgesIn}
-use Rattle.sheet.specs.Questions.{ask, checkOf, recordsCode}
+use Rattle.sheet.specs.Questions.{ask, checkOf, recordsRefusal}
 use Rattle.sheet.proofs.FieldLaws.{bounds}
 
 pub ask-yes : (n : ℕ) (t : Bool) (r : ℕ) → ask (suc n) t r ≡ 0 → t ≡ true
@@ -33,7 +33,7 @@ pub record Header (s : List ℕ) : Type 0 where
   pub locations : (1 ≤ locationsIn s) × (locationsIn s ≤ 12)
   pub clocks : (1 ≤ clocksIn s) × (clocksIn s ≤ editionOf s .clocks)
   pub edges : edgesIn s ≤ 32
-  pub records : recordsCode (clocksIn s) (locationsIn s) (edgesIn s) s ≡ 0
+  pub records : recordsRefusal (clocksIn s) (locationsIn s) (edgesIn s) s ≡ 0
 
 pub header : (s : List ℕ) → checkOf s ≡ 0 → Header s
 unfolding checkOf
@@ -59,7 +59,7 @@ header s h = record {
     counts = isWithin (locationsIn s) 1 12 && others
 
     records : ℕ
-    records = recordsCode (clocksIn s) (locationsIn s) (edgesIn s) s
+    records = recordsRefusal (clocksIn s) (locationsIn s) (edgesIn s) s
 
     after-2 : ask 3 edition (ask 4 counts records) ≡ 0
     after-2 = ask-rest 1 sized (ask 3 edition (ask 4 counts records)) h

@@ -8,3 +8,4 @@ pub mod PairLaws
 pub mod CodeLaws
 pub mod AcceptedLaws
 pub mod DecodeLaws
+pub mod Examples

@@ -11,7 +11,7 @@ use lib.Dec.{eqb}
 use Rattle.sheet.specs.Bytes.{byteAt, wordAt}
 use Rattle.sheet.specs.Maps.{placeOf}
 use Rattle.sheet.specs.Records.{recordLength, recordAt}
-use Rattle.sheet.specs.Questions.{each, sameRecord, distinctCode}
+use Rattle.sheet.specs.Questions.{each, sameRecord, distinctRefusal}
 use Rattle.sheet.specs.Decoded.{filled}
 use Rattle.sheet.specs.Keys.{keyOf, blankKey}
 use Rattle.sheet.specs.declared.keys.Key.{Key}
@@ -79,10 +79,10 @@ module _ (s : List ℕ) (from : ℕ) where
 -- ---- question 17
 
 module _ (e : ℕ) (s : List ℕ) (from : ℕ) where
-  pub twice : (i j : ℕ) → i < j → j < e → differs s from j i ≡ false → 17 ≡ distinctCode e s from
-  unfolding distinctCode
+  pub twice : (i j : ℕ) → i < j → j < e → differs s from j i ≡ false → 17 ≡ distinctRefusal e s from
+  unfolding distinctRefusal
   twice i j h k d = answer-no 17 e (isNew s from) j k (each-fails j (differs s from j) i h d)
 
-  pub none-twice : (j : ℕ) → j ≤ e → e ≤ j → each j (isNew s from) ≡ true → 0 ≡ distinctCode e s from
-  unfolding distinctCode
+  pub none-twice : (j : ℕ) → j ≤ e → e ≤ j → each j (isNew s from) ≡ true → 0 ≡ distinctRefusal e s from
+  unfolding distinctRefusal
   none-twice j h k d = answer-yes 17 e (isNew s from) j h k d

@@ -19,7 +19,7 @@ eightAt s at = fourAt s at * 4294967296 + fourAt s (at + 4)
 unfoldable pub sideOf : ℕ → ℕ
 sideOf n = cond (ltb n 8) 4 8
 
--- so many of them as one number
+-- that many bytes from a place on as one number
 unfoldable pub sideAt : List ℕ → ℕ → ℕ → ℕ
 sideAt s at n = cond (ltb n 8) (fourAt s at) (eightAt s at)
 

@@ -8,7 +8,7 @@ use lib.Dec.{eqb}
 abbrev pub bitOf : ℕ → ℕ → ℕ
 bitOf m b = m / 2 ^ b % 2
 
--- bit b of a map stands
+-- bit b of a map is set
 abbrev pub stands : ℕ → ℕ → Bool
 stands m b = not (eqb (bitOf m b) 0)
 

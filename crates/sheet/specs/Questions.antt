@@ -43,8 +43,8 @@ bitGood y kind k m b = not (stands m b) || permittedField k (fieldOf y kind b)
 module _ (kind : Kind) (k : ℕ) (s : List ℕ) (at : ℕ) where
   -- 5. "Are the map bytes there (before 6), and source, target and every byte the map calls for (after 6, before 7)?"
   -- 6. "Are only permitted bits set?"
-  unfoldable pub mapCode : ℕ
-  mapCode =
+  unfoldable pub mapRefusal : ℕ
+  mapRefusal =
       ask 5 (leb (at + mapBytes kind) (length s))
       (ask 6 (each 16 (bitGood (editionOf s) kind k (mapOf kind s at)))
       (ask 5 (leb (at + recordLength kind s at) (length s)) 0))
@@ -53,22 +53,22 @@ module _ (kind : Kind) (k : ℕ) (s : List ℕ) (at : ℕ) where
   fieldGood b = whereThere (inRange k (fieldOf (editionOf s) kind b)) (fieldAt kind s at b)
 
   -- 8. "Is each field in range"
-  unfoldable pub fieldsCode : ℕ
-  fieldsCode = ask 8 (each 16 fieldGood) 0
+  unfoldable pub fieldsRefusal : ℕ
+  fieldsRefusal = ask 8 (each 16 fieldGood) 0
 
 -- 7. "(Location) Does a bound stand for each of the K clocks?"
-unfoldable pub boundsCode : ℕ → List ℕ → ℕ → ℕ
-boundsCode k s at = ask 7 (each k (λ j. stands (mapOf LocationRecord s at) (boundBit + j))) 0
+unfoldable pub boundsRefusal : ℕ → List ℕ → ℕ → ℕ
+boundsRefusal k s at = ask 7 (each k (λ j. stands (mapOf LocationRecord s at) (boundBit + j))) 0
 
 -- 9. "(Edge) Are source and target below L?"
-unfoldable pub endsCode : ℕ → List ℕ → ℕ → ℕ
-endsCode l s at = ask 9 (ltb (byteAt s (at + 2)) l && ltb (byteAt s (at + 3)) l) 0
+unfoldable pub endsRefusal : ℕ → List ℕ → ℕ → ℕ
+endsRefusal l s at = ask 9 (ltb (byteAt s (at + 2)) l && ltb (byteAt s (at + 3)) l) 0
 
-unfoldable pub locationCode : ℕ → List ℕ → ℕ → ℕ
-locationCode k s at = orElse (mapCode LocationRecord k s at) (orElse (boundsCode k s at) (fieldsCode LocationRecord k s at))
+unfoldable pub locationRefusal : ℕ → List ℕ → ℕ → ℕ
+locationRefusal k s at = orElse (mapRefusal LocationRecord k s at) (orElse (boundsRefusal k s at) (fieldsRefusal LocationRecord k s at))
 
-unfoldable pub edgeCode : ℕ → ℕ → List ℕ → ℕ → ℕ
-edgeCode k l s at = orElse (mapCode EdgeRecord k s at) (orElse (fieldsCode EdgeRecord k s at) (endsCode l s at))
+unfoldable pub edgeRefusal : ℕ → ℕ → List ℕ → ℕ → ℕ
+edgeRefusal k l s at = orElse (mapRefusal EdgeRecord k s at) (orElse (fieldsRefusal EdgeRecord k s at) (endsRefusal l s at))
 
 -- the edge records at x and at y are the same bytes: as many, and each of them the same
 unfoldable pub sameRecord : List ℕ → ℕ → ℕ → Bool
@@ -77,25 +77,25 @@ sameRecord s x y =
     && each (recordLength EdgeRecord s x) (λ i. eqb (byteAt s (x + i)) (byteAt s (y + i)))
 
 -- 17. "Two edge records equal in every byte shall be turned back": of the e records that begin at `from`, does each differ from all before it?
-unfoldable pub distinctCode : ℕ → List ℕ → ℕ → ℕ
-distinctCode e s from = ask 17 (each e (λ j. each j (λ i. not (sameRecord s (recordAt EdgeRecord s from i) (recordAt EdgeRecord s from j))))) 0
+unfoldable pub distinctRefusal : ℕ → List ℕ → ℕ → ℕ
+distinctRefusal e s from = ask 17 (each e (λ j. each j (λ i. not (sameRecord s (recordAt EdgeRecord s from i) (recordAt EdgeRecord s from j))))) 0
 
 -- 11. "Do location 0's bounds admit all clocks at 0?" The upper byte 0 means clock < 0.
-unfoldable pub startCode : ℕ → List ℕ → ℕ
-startCode k s = ask 11 (each k (λ j. ltb 0 (boundAt s 4 j))) 0
+unfoldable pub startRefusal : ℕ → List ℕ → ℕ
+startRefusal k s = ask 11 (each k (λ j. ltb 0 (boundAt s 4 j))) 0
 
 -- 10. "Has every byte been used?", then 17, "put between questions 10 and 11", and 11
-unfoldable pub restCode : ℕ → ℕ → ℕ → List ℕ → ℕ
-restCode k l e s =
+unfoldable pub restRefusal : ℕ → ℕ → ℕ → List ℕ → ℕ
+restRefusal k l e s =
     ask 10 (eqb (recordAt EdgeRecord s (locationAt s l) e) (length s))
-    (orElse (distinctCode e s (locationAt s l)) (startCode k s))
+    (orElse (distinctRefusal e s (locationAt s l)) (startRefusal k s))
 
 -- "For each record in turn", and then the rest
-unfoldable pub recordsCode : ℕ → ℕ → ℕ → List ℕ → ℕ
-recordsCode k l e s =
-    orElse (firstOf l (λ i. locationCode k s (locationAt s i)))
-    (orElse (firstOf e (λ i. edgeCode k l s (recordAt EdgeRecord s (locationAt s l) i)))
-    (restCode k l e s))
+unfoldable pub recordsRefusal : ℕ → ℕ → ℕ → List ℕ → ℕ
+recordsRefusal k l e s =
+    orElse (firstOf l (λ i. locationRefusal k s (locationAt s i)))
+    (orElse (firstOf e (λ i. edgeRefusal k l s (recordAt EdgeRecord s (locationAt s l) i)))
+    (restRefusal k l e s))
 
 -- 2. "Is the length 4 to 580?", which "now allows 656 bytes". 3. "Is the edition 1?", which "allows 1 and 2". 4. "Are L, K, E in range?"
 unfoldable pub checkOf : List ℕ → ℕ
@@ -103,7 +103,7 @@ checkOf s =
     ask 2 (isWithin (length s) 4 656)
     (ask 3 (isWithin (byteAt s 0) 1 2)
     (ask 4 (isWithin (locationsIn s) 1 12 && (isWithin (clocksIn s) 1 (editionOf s .clocks) && isWithin (edgesIn s) 0 32))
-    (recordsCode (clocksIn s) (locationsIn s) (edgesIn s) s)))
+    (recordsRefusal (clocksIn s) (locationsIn s) (edgesIn s) s)))
 
 -- the numbers that the check can answer
 abbrev pub checkNumbers : List ℕ

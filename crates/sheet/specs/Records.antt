@@ -32,7 +32,7 @@ fieldPlace y s at b = at + headBytes y + placeOf (mapOf y s at) b
 unfoldable pub valueAt : List ℕ → ℕ → ℕ → ℕ
 valueAt s p b = cond (ltb b 2) (wordAt s p) (byteAt s p)
 
--- the field of bit b, in the record at `at`: its value where the bit stands
+-- the field of bit b, in the record at `at`: its value where the bit is set
 unfoldable pub fieldAt : Kind → List ℕ → ℕ → ℕ → Option ℕ
 fieldAt y s at b = cond (stands (mapOf y s at) b) (some (valueAt s (fieldPlace y s at b) b)) none
 

@@ -1,16 +1,6 @@
-// The sheet format: whether a byte string is a sheet, and what it holds.
-ghost use mathlib.Core.Path.{_≡_};
-ghost use Rattle.sheet.specs.Fields.{editionAt};
-ghost use Rattle.sheet.specs.Questions.{checkOf};
-ghost use Rattle.sheet.specs.Decoded.{readOf};
-
-mod bytes;
-mod decode;
-mod distinct;
-mod fields;
-mod keys;
-mod questions;
-mod records;
+// The sheet format: what the bytes of a sheet are and mean, and the decoded sheet. No code.
+pub mod fields;
+pub mod keys;
 
 // What a location record holds; absent prices are 0, and so are the bounds of clocks that the sheet does not have.
 pub struct Location {
@@ -40,29 +30,4 @@ pub struct Sheet {
     pub edges: u8,
     pub location: [Location; 12],
     pub edge: [Edge; 32],
-}
-
-// How many clocks a sheet of an edition has at most.
-pub fn most_clocks(edition: u8) -> u8
-    ensures { λ r. ⌜ r ≡ editionAt edition .clocks ⌝ }
-{
-    if edition == 1 { 3 } else { 4 }
-}
-
-// 0, or the number of the first of questions 2 to 10, 17 and 11 that is answered no.
-pub fn check(sheet: &[u8]) -> u8
-    ensures { λ r. ⌜ r ≡ checkOf (now (sheet .entry)) ⌝ }
-{
-    questions::check(sheet)
-}
-
-// The decoded sheet, all of it 0 but the refusal where the check refuses it.
-pub fn read(sheet: &[u8]) -> Sheet
-    ensures { λ r. ⌜ r ≡ readOf (now (sheet .entry)) ⌝ }
-{
-    let refusal = questions::check(sheet);
-    if refusal != 0 {
-        return decode::refused(refusal);
-    }
-    decode::decoded(sheet)
 }

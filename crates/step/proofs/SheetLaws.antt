@@ -1,35 +1,25 @@
--- Questions 15 and 16 of a decoded sheet by its records; and what was read steps as its bytes do.
-use mathlib.Core.Path.{_≡_, refl, sym, ap, ap₂, _∙_}
+-- Question 15 of a decoded sheet by the record of a location, a whole step, and that what was read steps as its bytes do.
+use mathlib.Core.Path.{_≡_, sym, ap, ap₂, _∙_}
 use mathlib.Core.Bool.{Bool, true, false, cond, _&&_}
 use mathlib.Core.List.{List}
-use mathlib.Core.Option.{Option, none, some}
 use Prim.Native.Nat.{ℕ, _≤_, _<_}
-use borrow.Author.Tests.{eqb-true, eq-eqb, ne-eqb, le-leb, lt-leb, lt-ltb, le-ltb}
+use borrow.Author.Tests.{eqb-true, eq-eqb, ne-eqb, lt-ltb, le-ltb}
 use lib.Dec.{eqb}
-use Rattle.automaton.specs.Priced.{Priced}
-use Rattle.automaton.specs.Steps.{edgeStep, step}
 use Rattle.automaton.proofs.Tests.{by-bool}
-use Rattle.automaton.proofs.Times.{edge-units}
 use Rattle.sheet.specs.Questions.{checkOf}
 use Rattle.sheet.specs.Decoded.{blankEdge, readOf}
-use Rattle.sheet.specs.declared.Edge.{Edge}
 use Rattle.sheet.specs.declared.Location.{Location}
 use Rattle.sheet.specs.declared.Sheet.{Sheet}
 use Rattle.nodes.specs.Numbers.{Layout, bitsOf, nodeOf, isNumber, stepBy}
 use Rattle.nodes.specs.Meaning.{meaning, layoutOf}
-use Rattle.nodes.specs.Decoded.{layoutIn, locationIn, edgeIn, decodedMeaning, alone}
+use Rattle.nodes.specs.Decoded.{layoutIn, locationIn, decodedMeaning, alone}
 use Rattle.nodes.proofs.CheckedLaws.{sound, room}
 use Rattle.nodes.proofs.NumberLaws.{node-there}
 use Rattle.nodes.proofs.AgreeLaws.{Agree, numbers-agree, number-steps-agree}
-use Rattle.nodes.proofs.DecodedLaws.{read-layout, read-refusal, read-agrees, edge-alone-number, delay-alone-number, number-alone}
+use Rattle.nodes.proofs.DecodedLaws.{read-layout, read-refusal, read-agrees, number-alone}
 use Rattle.region.specs.Answers.{refusedStep, answered}
 use Rattle.region.specs.declared.Stepped.{Stepped}
 use Rattle.step.specs.Step.{answerAt, stepOf, stepIn}
-
--- no edge takes time, so all are answered alike
-no-time : (o : Option (Priced ℕ)) (e : ℕ) → e ≤ 31 → answered 0 o ≡ answered e o
-no-time none e h = refl
-no-time (some v) e h = ap (λ (n : ℕ). record { refusal = 0; number = v .to; cost = v .cost; reward = v .reward; units = n }) (sym (edge-units e h))
 
 module _ (s : Sheet) (x : ℕ) where
   abbrev y : Layout
@@ -50,28 +40,6 @@ module _ (s : Sheet) (x : ℕ) where
   by-location h l q = ap (λ (l : Location). isNumber y (alone (s .edition) (s .clocks) blankEdge l) x) q
       ∙ sym (number-alone y s x blankEdge
       ∙ ap (λ (b : Bool). b && isNumber y (alone (s .edition) (s .clocks) blankEdge (locationIn s location)) x) (lt-ltb _ _ h))
-
-  -- an edge that the sheet does not have
-  pub no-edge : (e : ℕ) → e ≤ 31 → s .edges ≤ e → refusedStep 16 ≡ answered e (stepBy y (decodedMeaning s) x e)
-  unfolding stepBy step edgeStep decodedMeaning
-  no-edge e h l = sym (simp (le-leb e 31 h, le-ltb e (s .edges) l))
-
-  pub no-code : (code : ℕ) → 31 < code → (code ≡ 32 → ⊥) → (code ≡ 33 → ⊥) → refusedStep 16 ≡ answered code (stepBy y (decodedMeaning s) x code)
-  unfolding stepBy step
-  no-code code h m n = sym (simp (lt-leb code 31 h, ne-eqb code 32 m, ne-eqb code 33 n))
-
-  -- an edge that it has, and a delay, by the records at hand
-  pub edge-there : (e : ℕ) → e ≤ 31 → e < s .edges → (w : Edge) → w ≡ edgeIn s e → (l : Location) → l ≡ locationIn s (w .target)
-      → answered 0 (stepBy y (alone (s .edition) (s .clocks) w l) x 0) ≡ answered e (stepBy y (decodedMeaning s) x e)
-  edge-there e h k w p l q =
-      ap₂ (λ (w : Edge) (l : Location). answered 0 (stepBy y (alone (s .edition) (s .clocks) w l) x 0)) p (q ∙ ap (λ (w : Edge). locationIn s (w .target)) p)
-      ∙ sym (ap (answered 0) (edge-alone-number y s x e h k)) ∙ no-time (stepBy y (decodedMeaning s) x e) e h
-
-  pub delay-there : (code c : ℕ) → code ≡ c → 31 < c → (l : Location) → l ≡ locationIn s location
-      → answered c (stepBy y (alone (s .edition) (s .clocks) blankEdge l) x c) ≡ answered code (stepBy y (decodedMeaning s) x code)
-  unfolding nodeOf
-  delay-there code c p h l q = ap (λ (l : Location). answered c (stepBy y (alone (s .edition) (s .clocks) blankEdge l) x c)) q
-      ∙ sym (ap (answered c) (delay-alone-number y s x blankEdge c h)) ∙ ap (λ (m : ℕ). answered m (stepBy y (decodedMeaning s) x m)) (sym p)
 
   -- ---- a whole step
 

@@ -1,4 +1,4 @@
--- A single step answers one of its own numbers, each just where its condition holds.
+-- A single step answers one of its own numbers, each if and only if its condition holds.
 use mathlib.Core.Path.{_≡_, refl, sym, ap, subst}
 use mathlib.Core.Logic.{_≢_}
 use mathlib.Core.Bool.{Bool, true, false}

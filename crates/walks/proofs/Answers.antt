@@ -1,4 +1,4 @@
--- From what the rounds and the climb leave, in codes, to the weights as integers.
+-- From what the rounds and the climb leave, in raised numbers, to the weights as integers.
 use mathlib.Core.Path.{_≡_}
 use mathlib.Core.Logic.{inl, inr}
 use mathlib.Core.List.{List, [], _∷_}
@@ -12,20 +12,20 @@ use Rattle.integers.proofs.Pigeonhole.{pigeon}
 use Rattle.walks.specs.Walk.{at, atℤ, ArcWalk}
 use Rattle.walks.specs.Weight.{weightOf, sum, total, NegativeCycle, NoneNegative, LeastWeight, unreached, PotentialOrMark}
 use Rattle.walks.specs.Form.{Graph, CoefficientsInRange}
+use Rattle.walks.specs.SearchNumbers.{raised, raisedAll, bias, start, inf, deep}
+use Rattle.walks.specs.SearchTerms.{Attained, Least, Negative, raisedWeight}
 use Rattle.walks.proofs.Walks.{walk-arc, walk-end, sources}
 use Rattle.walks.proofs.Weights.{none-negative}
-use Rattle.walks.proofs.Codes.{code, codes, at-codes, code-parts, code-abs}
-use Rattle.walks.proofs.Rounds.{bias, start, inf, deep, Attained, Least}
+use Rattle.walks.proofs.Raised.{at-raised, raised-parts, raised-abs}
 use Rattle.walks.proofs.RoundLaws.{least}
-use Rattle.walks.proofs.Climbs.{Negative}
-use Rattle.walks.proofs.Coded.{coded, parts, arcs}
+use Rattle.walks.proofs.RaisedWeights.{parts, arcs}
 
 module _ {F T : List ℕ} {cost : List ℤ} {reward : List ℕ} {a b c : ℤ} {n : ℕ} (g : Graph F T cost reward n) (k : CoefficientsInRange a b c) where
   abbrev weight : ℕ → ℤ
   weight = weightOf a b c cost reward
 
   abbrev W : ℕ → ℕ
-  W = coded a b c cost reward
+  W = raisedWeight a b c cost reward
 
   abbrev m : ℕ
   m = length F
@@ -51,29 +51,29 @@ module _ {F T : List ℕ} {cost : List ℤ} {reward : List ℕ} {a b c : ℤ} {n
   short l o = pigeon (length l) n (λ i. at T (at l i)) (λ i h. g .arc (at l i) (walk-arc F T m (o .hub) l (o .hub) (o .walk) i h) .target) (o .simple)
 
   -- ---- potentials
-  module _ (d : List ℤ) (l : length d ≡ 2048) (o : Least F T W m (codes start d) 2048) where
-    lowest : (v : ℕ) (z : ℤ) → v < 2048 → at (codes start d) v < inf → Parts z (at (codes start d) v) start → LeastWeight F T m weight v z
-    lowest v z h i p = let r : Attained F T W m (at (codes start d) v) v = o .reached v h i in record {
+  module _ (d : List ℤ) (l : length d ≡ 2048) (o : Least F T W m (raisedAll start d) 2048) where
+    lowest : (v : ℕ) (z : ℤ) → v < 2048 → at (raisedAll start d) v < inf → Parts z (at (raisedAll start d) v) start → LeastWeight F T m weight v z
+    lowest v z h i p = let r : Attained F T W m (at (raisedAll start d) v) v = o .reached v h i in record {
       path = r .path;
       walk = r .walk;
       weighs = ext (sum weight (r .path)) z (omega (arith, sum-parts 0 (r .path) v (r .walk), r .weighs));
-      least = λ c w. le-of z (sum weight c) (omega (arith, sum-parts 0 c v w, least F T W m (codes start d) 2048 (arcs g k) o v c w));
+      least = λ c w. le-of z (sum weight c) (omega (arith, sum-parts 0 c v w, least F T W m (raisedAll start d) 2048 (arcs g k) o v c w));
     }
 
     pub potential : (v : ℕ) → v < 2048 → PotentialOrMark F T m weight v (atℤ d v)
-    potential v h = potential′ (at-codes start d v (omega arith))
+    potential v h = potential′ (at-raised start d v (omega arith))
       where
-        potential′ : at (codes start d) v ≡ code start (atℤ d v) → PotentialOrMark F T m weight v (atℤ d v)
+        potential′ : at (raisedAll start d) v ≡ raised start (atℤ d v) → PotentialOrMark F T m weight v (atℤ d v)
         potential′ p =
-            let q : Parts (atℤ d v) (code start (atℤ d v)) start = code-parts start (atℤ d v) (omega (arith, o .floor v h)) in
-            elim (decLt (at (codes start d) v) inf) [
+            let q : Parts (atℤ d v) (raised start (atℤ d v)) start = raised-parts start (atℤ d v) (omega (arith, o .floor v h)) in
+            elim (decLt (at (raisedAll start d) v) inf) [
               | yes i ↦ inr (
                 lowest v (atℤ d v) h i (rw p q),
-                code-abs start deep (atℤ d v) (omega (arith, o .floor v h)) (omega (arith, o .floor v h)) (omega (arith, o .ceiling v h i)),
+                raised-abs start deep (atℤ d v) (omega (arith, o .floor v h)) (omega (arith, o .floor v h)) (omega (arith, o .ceiling v h i)),
               )
               | no i ↦ inl (
                 ext (atℤ d v) unreached (omega (arith, o .top v h)),
-                λ r. i (least F T W m (codes start d) 2048 (arcs g k) o v (r .path) (r .walk) .0),
+                λ r. i (least F T W m (raisedAll start d) 2048 (arcs g k) o v (r .path) (r .walk) .0),
               )
             ]
 

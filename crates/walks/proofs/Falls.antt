@@ -11,9 +11,11 @@ use borrow.Author.Count.{below-more}
 use lib.ListN.{set, length-append, length-set}
 use lib.Seq.{getD-set-same, getD-set-other}
 use Rattle.walks.specs.Walk.{at}
+use Rattle.walks.specs.SearchNumbers.{bias, start, inf, most, deep, perRound, stamps}
+use Rattle.walks.specs.SearchTerms.{Attained, NoFall, Hangs, zeroCount, RoundState, Fine, Relaxed}
 use Rattle.walks.proofs.Walks.{walk-snoc}
 use Rattle.walks.proofs.Weights.{total-append}
-use Rattle.walks.proofs.Rounds.{bias, start, inf, most, deep, turn, stamps, Arcs, Attained, Settled, Hangs, zeros, State, Fine, Relaxed}
+use Rattle.walks.proofs.Rounds.{Arcs}
 use Rattle.walks.proofs.Zeros.{split, zeros-set, zeros-keep}
 use Rattle.walks.proofs.Relaxing.{true-false, known}
 
@@ -26,8 +28,8 @@ reach-more F T W m d x e p h q = record {
 }
 
 module _ (F T : List ℕ) (W : ℕ → ℕ) (m : ℕ) (D par st : List ℕ) (b n e x : ℕ)
-    (g : Arcs F T W m n) (s : State F T W m D par st b e n) (f : Fine D n) (he : e < m)
-    (late : b + e < at st (at F e) + turn) (less : x < at D (at T e)) (is : x + bias ≡ at D (at F e) + W e) where
+    (g : Arcs F T W m n) (s : RoundState F T W m D par st b e n) (f : Fine D n) (he : e < m)
+    (late : b + e < at st (at F e) + perRound) (less : x < at D (at T e)) (is : x + bias ≡ at D (at F e) + W e) where
   abbrev v : ℕ
   v = at T e
 
@@ -47,7 +49,7 @@ module _ (F T : List ℕ) (W : ℕ → ℕ) (m : ℕ) (D par st : List ℕ) (b n
   hu = g .source e he
 
   D-v : at D' v ≡ x
-  D-v = getD-set-same D v x 0 (omega (arith, hv, s .dist-len))
+  D-v = getD-set-same D v x 0 (omega (arith, hv, s .potential-len))
 
   par-v : at par' v ≡ e + 1
   par-v = getD-set-same par v (e + 1) 0 (omega (arith, hv, s .par-len))
@@ -70,7 +72,7 @@ module _ (F T : List ℕ) (W : ℕ → ℕ) (m : ℕ) (D par st : List ℕ) (b n
   known-u : at D (at F e) < inf
   known-u = known F T W m D par st b n e g s he late
 
-  high : at D (at F e) + most * zeros par ≤ start + most * n
+  high : at D (at F e) + most * zeroCount par ≤ start + most * n
   high = s .cap (at F e) hu known-u
 
   x-known : x < inf
@@ -96,26 +98,26 @@ module _ (F T : List ℕ) (W : ℕ → ℕ) (m : ℕ) (D par st : List ℕ) (b n
       (λ j q h k. omega (arith, D-o j q, s .known j h (omega (arith, st-o j q))))
 
   -- the new potential's bound, and the others'
-  zeros-less : at par v ≡ 0 → zeros par ≡ suc (zeros par')
+  zeros-less : at par v ≡ 0 → zeroCount par ≡ suc (zeroCount par')
   zeros-less p = rw (add-one e) (zeros-set par v e (omega (arith, hv, s .par-len)) p)
 
-  zeros-kept : at par v ≢ 0 → zeros par' ≡ zeros par
+  zeros-kept : at par v ≢ 0 → zeroCount par' ≡ zeroCount par
   zeros-kept q = rw (add-one e) (zeros-keep par v e (omega (arith, hv, s .par-len)) q)
 
-  zeros-fall : zeros par' ≤ zeros par
+  zeros-fall : zeroCount par' ≤ zeroCount par
   zeros-fall = elim (ℕ-discrete (at par v) 0) [
     | yes p ↦ omega (arith, zeros-less p)
     | no q ↦ omega (arith, zeros-kept q)
   ]
 
-  x-cap : x + most * zeros par' ≤ start + most * n
+  x-cap : x + most * zeroCount par' ≤ start + most * n
   x-cap = elim (ℕ-discrete (at par v) 0) [
     | yes p ↦ omega (arith, zeros-less p, high, g .light e he)
     | no q ↦ omega (arith, zeros-kept q, s .cap v hv (s .hangs v hv (at par v - 1) (omega arith) .known))
   ]
 
-  cap' : (j : ℕ) → j < n → at D' j < inf → at D' j + most * zeros par' ≤ start + most * n
-  cap' = split (λ j. j < n → at D' j < inf → at D' j + most * zeros par' ≤ start + most * n) v
+  cap' : (j : ℕ) → j < n → at D' j < inf → at D' j + most * zeroCount par' ≤ start + most * n
+  cap' = split (λ j. j < n → at D' j < inf → at D' j + most * zeroCount par' ≤ start + most * n) v
       (λ h k. omega (arith, D-v, x-cap))
       (λ j q h k. omega (arith, D-o j q, zeros-fall, s .cap j h (omega (arith, D-o j q))))
 
@@ -124,8 +126,8 @@ module _ (F T : List ℕ) (W : ℕ → ℕ) (m : ℕ) (D par st : List ℕ) (b n
       (λ h k. rw D-v (reach-more F T W m (at D (at F e)) x e (s .reached (at F e) hu known-u) he is))
       (λ j q h k. rw (D-o j q) (s .reached j h (omega (arith, D-o j q))))
 
-  root' : (j : ℕ) → j < n → at par' j ≡ 0 → (at st' j ≤ turn) × (start ≤ at D' j)
-  root' = split (λ j. j < n → at par' j ≡ 0 → (at st' j ≤ turn) × (start ≤ at D' j)) v
+  root' : (j : ℕ) → j < n → at par' j ≡ 0 → (at st' j ≤ perRound) × (start ≤ at D' j)
+  root' = split (λ j. j < n → at par' j ≡ 0 → (at st' j ≤ perRound) × (start ≤ at D' j)) v
       (λ h z. absurd (omega (arith, par-v)))
       (λ j q h z. omega (arith, st-o j q, D-o j q, s .root j h (sym (par-o j q) ∙ z)))
 
@@ -147,24 +149,24 @@ module _ (F T : List ℕ) (W : ℕ → ℕ) (m : ℕ) (D par st : List ℕ) (b n
       })
 
   -- a settled arc stays so, as its source has not fallen
-  settled' : (a k : ℕ) → k ≤ b + e + 1 → Settled F T W D st a k → Settled F T W D' st' a k
+  settled' : (a k : ℕ) → k ≤ b + e + 1 → NoFall F T W D st a k → NoFall F T W D' st' a k
   settled' a k h d = elim (ℕ-discrete (at F a) v) [
     | yes p ↦ λ y l. absurd (let z : at st' (at F a) ≡ at st' v = ap (λ (j : ℕ). at st' j) p in omega (arith, st-v))
     | no q ↦ λ y l. omega (arith, D-o (at F a) q, falls (at T a), d (omega (arith, st-o (at F a) q)) (omega (arith, D-o (at F a) q)))
   ]
 
-  done-e : Settled F T W D' st' e (b + e + 1)
+  done-e : NoFall F T W D' st' e (b + e + 1)
   done-e = elim (ℕ-discrete (at F e) v) [
     | yes p ↦ λ y l. absurd (let z : at st' (at F e) ≡ at st' v = ap (λ (j : ℕ). at st' j) p in omega (arith, st-v))
     | no q ↦ λ y l. omega (arith, D-o (at F e) q, D-v)
   ]
 
-  relax-state : State F T W m D' par' st' b (e + 1) n
+  relax-state : RoundState F T W m D' par' st' b (e + 1) n
   relax-state = record {
     begun = s .begun;
     rounds = s .rounds;
     within = omega arith;
-    dist-len = length-set D v x ∙ s .dist-len;
+    potential-len = length-set D v x ∙ s .potential-len;
     par-len = length-set par v (e + 1) ∙ s .par-len;
     st-len = length-set st v (b + e + 1) ∙ s .st-len;
     first = omega (arith, falls 0, s .first);
@@ -175,8 +177,8 @@ module _ (F T : List ℕ) (W : ℕ → ℕ) (m : ℕ) (D par st : List ℕ) (b n
     reached = reached';
     root = root';
     hangs = hangs';
-    still = λ a h. settled' a (b - turn + a + 1) (omega (arith, s .begun, g .few)) (s .still a h);
-    done = below-more (λ a. Settled F T W D' st' a (b + a + 1)) e (λ a h. settled' a (b + a + 1) (omega arith) (s .done a h)) done-e;
+    still = λ a h. settled' a (b - perRound + a + 1) (omega (arith, s .begun, g .few)) (s .still a h);
+    done = below-more (λ a. NoFall F T W D' st' a (b + a + 1)) e (λ a h. settled' a (b + a + 1) (omega arith) (s .done a h)) done-e;
   }
 
   pub relax-changed : Relaxed F T W m D st (set D (at T e) x) (set par (at T e) (e + 1)) (set st (at T e) (b + e + 1)) b n e true

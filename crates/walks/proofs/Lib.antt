@@ -3,7 +3,7 @@ pub mod Weights
 pub mod Tests
 pub mod Copies
 pub mod Signed
-pub mod Codes
+pub mod Raised
 pub mod Rounds
 pub mod Zeros
 pub mod Relaxing
@@ -11,9 +11,10 @@ pub mod Falls
 pub mod RoundLaws
 pub mod Climbs
 pub mod ClimbTurns
-pub mod Coded
+pub mod RaisedWeights
 pub mod Answers
 pub mod RelaxTurns
 pub mod RoundTurns
 pub mod Lassos
 pub mod Trees
+pub mod Apart

@@ -9,7 +9,9 @@ use lib.ListN.{length, set, length-set, replicate, getD-replicate, length-replic
 use lib.Seq.{getD-set-same, getD-set-other}
 use Rattle.walks.specs.Walk.{at, ArcWalk}
 use Rattle.walks.specs.Weight.{total}
-use Rattle.walks.proofs.Rounds.{bias, start, inf, most, deep, turn, Arcs, Attained, Least, zeros, State, Fine, Relaxed, Turn, Ended}
+use Rattle.walks.specs.SearchNumbers.{bias, start, inf, most, deep, perRound}
+use Rattle.walks.specs.SearchTerms.{Attained, Least, zeroCount, RoundState, Fine, Relaxed, Ended}
+use Rattle.walks.proofs.Rounds.{Arcs, Turn}
 use Rattle.walks.proofs.Zeros.{split, zeros-replicate}
 
 -- ---- least potentials
@@ -34,41 +36,41 @@ module _ (F T : List ℕ) (W : ℕ → ℕ) (m : ℕ) (n : ℕ) (g : Arcs F T W 
   D₀ = set (replicate n inf) 0 start
 
   abbrev st₀ : List ℕ
-  st₀ = set (replicate n 0) 0 turn
+  st₀ = set (replicate n 0) 0 perRound
 
   D-0 : at D₀ 0 ≡ start
   D-0 = getD-set-same (replicate n inf) 0 start 0 (omega (arith, length-replicate n inf, g .some))
 
-  st-0 : at st₀ 0 ≡ turn
-  st-0 = getD-set-same {A = ℕ} (replicate n 0) 0 turn 0 (omega (arith, length-replicate {A = ℕ} n 0, g .some))
+  st-0 : at st₀ 0 ≡ perRound
+  st-0 = getD-set-same {A = ℕ} (replicate n 0) 0 perRound 0 (omega (arith, length-replicate {A = ℕ} n 0, g .some))
 
   D-o : (v : ℕ) → v ≢ 0 → v < n → at D₀ v ≡ inf
   D-o v q h = getD-set-other (replicate n inf) 0 v start 0 q ∙ getD-replicate n v inf 0 h
 
   st-o : (v : ℕ) → v ≢ 0 → v < n → at st₀ v ≡ 0
-  st-o v q h = getD-set-other {A = ℕ} (replicate n 0) 0 v turn 0 q ∙ getD-replicate {A = ℕ} n v 0 0 h
+  st-o v q h = getD-set-other {A = ℕ} (replicate n 0) 0 v perRound 0 q ∙ getD-replicate {A = ℕ} n v 0 0 h
 
   none : (v : ℕ) → v < n → at (replicate n 0) v ≡ 0
   none v h = getD-replicate {A = ℕ} n v 0 0 h
 
-  pub begin : State F T W m D₀ (replicate n 0) st₀ turn 0 n
+  pub begin : RoundState F T W m D₀ (replicate n 0) st₀ perRound 0 n
   begin = record {
     begun = omega arith;
     rounds = omega (arith, g .some);
     within = omega arith;
-    dist-len = length-set (replicate n inf) 0 start ∙ length-replicate n inf;
+    potential-len = length-set (replicate n inf) 0 start ∙ length-replicate n inf;
     par-len = length-replicate n 0;
-    st-len = length-set {A = ℕ} (replicate n 0) 0 turn ∙ length-replicate n 0;
+    st-len = length-set {A = ℕ} (replicate n 0) 0 perRound ∙ length-replicate n 0;
     first = omega (arith, D-0);
-    stamp = split (λ v. v < n → at st₀ v ≤ turn + 0) 0 (λ h. omega (arith, st-0)) (λ v q h. omega (arith, st-o v q h));
+    stamp = split (λ v. v < n → at st₀ v ≤ perRound + 0) 0 (λ h. omega (arith, st-0)) (λ v q h. omega (arith, st-o v q h));
     known = split (λ v. v < n → 0 < at st₀ v → at D₀ v < inf) 0 (λ h k. omega (arith, D-0)) (λ v q h k. absurd (omega (arith, st-o v q h)));
     top = split (λ v. v < n → at D₀ v ≤ inf) 0 (λ h. omega (arith, D-0)) (λ v q h. omega (arith, D-o v q h));
-    cap = split (λ v. v < n → at D₀ v < inf → at D₀ v + most * zeros (replicate n 0) ≤ start + most * n) 0
+    cap = split (λ v. v < n → at D₀ v < inf → at D₀ v + most * zeroCount (replicate n 0) ≤ start + most * n) 0
         (λ h k. omega (arith, D-0, zeros-replicate n)) (λ v q h k. absurd (omega (arith, D-o v q h)));
     reached = split (λ v. v < n → at D₀ v < inf → Attained F T W m (at D₀ v) v) 0
         (λ h l. rw D-0 record { path = []; walk = refl; weighs = omega arith })
         (λ v q h l. absurd (omega (arith, D-o v q h)));
-    root = split (λ v. v < n → at (replicate n 0) v ≡ 0 → (at st₀ v ≤ turn) × (start ≤ at D₀ v)) 0
+    root = split (λ v. v < n → at (replicate n 0) v ≡ 0 → (at st₀ v ≤ perRound) × (start ≤ at D₀ v)) 0
         (λ h z. omega (arith, st-0, D-0)) (λ v q h z. omega (arith, st-o v q h, D-o v q h));
     hangs = λ v h e p. absurd (omega (arith, none v h));
     still = λ e he k l. absurd (split (λ u. u < n → at st₀ u < e + 1 → at D₀ u < inf → ⊥) 0
@@ -123,13 +125,13 @@ ended F T W m D par st b i n seen g p t = record {
 }
 
 -- the next round
-pub next : (F T : List ℕ) (W : ℕ → ℕ) (m : ℕ) (D par st : List ℕ) (b i n : ℕ) → Arcs F T W m n → i ≡ m → b < turn * n
-    → State F T W m D par st b i n → State F T W m D par st (b + turn) 0 n
+pub next : (F T : List ℕ) (W : ℕ → ℕ) (m : ℕ) (D par st : List ℕ) (b i n : ℕ) → Arcs F T W m n → i ≡ m → b < perRound * n
+    → RoundState F T W m D par st b i n → RoundState F T W m D par st (b + perRound) 0 n
 next F T W m D par st b i n g p more s = record {
   begun = omega (arith, s .begun);
   rounds = omega arith;
   within = omega arith;
-  dist-len = s .dist-len;
+  potential-len = s .potential-len;
   par-len = s .par-len;
   st-len = s .st-len;
   first = s .first;

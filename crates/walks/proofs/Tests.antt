@@ -1,4 +1,4 @@
--- Answers of tests, and the ranges that the code tests by signed comparisons.
+-- Laws on answers of tests, and the ranges that the code tests by signed comparisons.
 use mathlib.Core.Path.{_≡_, _∙_}
 use mathlib.Core.Bool.{Bool, true, false}
 use Prim.Native.Nat.{ℕ, suc, _+_, _^_, _≤_, _<_}
@@ -10,11 +10,7 @@ use mir.Syntax.{w64}
 use mir.Val.{SFits, toZ, ofZ}
 use mir.Facts.{toZ-ofZ}
 use Rattle.integers.proofs.Parts.{up, dn, abs-parts, le-of, le-parts, less, not-less, at-most, not-at-most}
-
--- t says whether P holds
-pub record Test (P : Type 0) (t : Bool) : Type 0 where
-  pub yes : t ≡ true → P
-  pub no : t ≡ false → P → ⊥
+use Rattle.walks.specs.Tests.{Test}
 
 pub fails : {P : Type 0} → (P → ⊥) → Test P false
 fails q = record { yes = λ z. absurd (let y : _≡_ {A = ℕ} 0 1 = cc in omega arith); no = λ _. q }

@@ -7,3 +7,4 @@ pub mod PlanRuns
 pub mod SmallestRun
 pub mod Exits
 pub mod JustWhen
+pub mod BenchPairs

@@ -1,3 +1,4 @@
 pub mod Work
 pub mod Conditions
+pub mod BenchWorked
 pub mod PrivatePromises

@@ -17,7 +17,7 @@ use Rattle.work.specs.Work.{PairBuffers, RoomForPairs, zeroPairs}
 use Rattle.work.specs.declared.Lengths.{Lengths}
 use Rattle.work.specs.declared.pairs.Progress.{Progress}
 
--- the bytes of so many clocks all have this parity: 0 is even, 1 is odd
+-- the bytes of the first clocks all have this parity: 0 is even, 1 is odd
 abbrev pub allOfParity : List ℕ → ℕ → ℕ → Bool
 allOfParity bytes clocks parity = each clocks (λ j. eqb (getD bytes j 0 % 2) parity)
 

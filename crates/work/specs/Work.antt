@@ -35,7 +35,7 @@ pub record RoomForPairs (b : PairBuffers) : Type 0 where
   pub waits : 2049 ≤ length (b .waits)
   pub edges : 2049 ≤ length (b .edges)
 
--- "0 after them": a list, and zeros up to so many entries
+-- "0 after them": a list, and zeros up to n entries
 abbrev pub zerosAfter : ℕ → List ℕ → List ℕ
 zerosAfter n l = l ++ replicate (n - length l) 0
 

@@ -9,7 +9,7 @@ use sheet::Edge;
 use sheet::Location;
 use sheet::Sheet;
 
-// Whether the bytes of so many clocks are all even, of parity 0, or all odd, of parity 1.
+// Whether the bytes of the first clocks are all even, of parity 0, or all odd, of parity 1.
 fn all_of_parity(bytes: [u8; 4], clocks: usize, parity: u8) -> bool
     requires { ⌜ clocks ≤ 4 ⌝ }
     ensures { λ r. ⌜ r ≡ allOfParity bytes clocks parity ⌝ }
@@ -25,7 +25,7 @@ fn all_of_parity(bytes: [u8; 4], clocks: usize, parity: u8) -> bool
     all
 }
 
-// Whether the bounds of so many locations are all odd.
+// Whether the bounds of the first locations are all odd.
 fn bounds_closed(locations: [Location; 12], count: usize, clocks: usize) -> bool
     requires { ⌜ count ≤ 12 ⌝ ∗ ⌜ clocks ≤ 4 ⌝ }
     ensures { λ r. ⌜ r ≡ boundsOdd locations count clocks ⌝ }
@@ -43,7 +43,7 @@ fn bounds_closed(locations: [Location; 12], count: usize, clocks: usize) -> bool
     all
 }
 
-// Whether the lower guards of so many edges are all even and the upper ones odd. An absent lower one is 0, an absent upper one 255.
+// Whether the lower guards of the first edges are all even and the upper ones odd. An absent lower one is 0, an absent upper one 255.
 fn guards_closed(edges: [Edge; 32], count: usize, clocks: usize) -> bool
     requires { ⌜ count ≤ 32 ⌝ ∗ ⌜ clocks ≤ 4 ⌝ }
     ensures { λ r. ⌜ r ≡ guardsEvenOdd edges count clocks ⌝ }

@@ -59,7 +59,7 @@ pub fn work(sheet: &[u8], waits: &mut [u16], edges: &mut [u16]) -> Lengths
     if edges.len() < 2049 {
         return refused(1);
     }
-    let read = sheet::read(sheet);
+    let read = reader::read(sheet);
     let refusal = read.refusal;
     if refusal != 0 {
         return refused(refusal);

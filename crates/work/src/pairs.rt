@@ -1,5 +1,4 @@
 // The pairs of step codes.
-ghost use mathlib.Core.Path.{_≡_};
 ghost use Prim.Native.Nat.{_≤_};
 ghost use lib.ListN.{length};
 ghost use lib.Seq.{slice};
@@ -42,6 +41,8 @@ pub(crate) fn write_pairs(
             32 => {
                 w += 1;
             }
+            33 => {}
+            // No step has another code.
             _ => {}
         }
         i += 1;

@@ -21,6 +21,9 @@ fn past_edge(codes: &[u16], from: usize, to: usize) -> usize
             0..=31 => {
                 return i + 1;
             }
+            32 => {}
+            33 => {}
+            // No step has another code.
             _ => {}
         }
         i += 1;

@@ -2,7 +2,7 @@
 use libc::STDOUT_FILENO;
 use work::Lengths;
 
-fn word(text: &[u8]) {
+fn print(text: &[u8]) {
     io::write_all(STDOUT_FILENO, text);
 }
 
@@ -22,27 +22,27 @@ fn entry(list: &[u16], at: usize) -> u16 {
 fn pairs(waits: &[u16], edges: &[u16], from: usize, to: usize) {
     let mut i = from;
     while i < to {
-        word(b" (");
+        print(b" (");
         number(entry(waits, i));
-        word(b", ");
+        print(b", ");
         number(entry(edges, i));
-        word(b")");
+        print(b")");
         i += 1;
     }
 }
 
 pub(crate) fn line(name: &[u8], answer: Lengths, waits: &[u16], edges: &[u16]) {
-    word(name);
+    print(name);
     if answer.refusal == 0 {
         let stem = answer.stem as usize;
         let all = stem + answer.cycle as usize;
-        word(b": stem");
+        print(b": stem");
         pairs(waits, edges, 0, stem);
-        word(b", cycle");
+        print(b", cycle");
         pairs(waits, edges, stem, all);
     } else {
-        word(b": refused ");
+        print(b": refused ");
         number(answer.refusal as u16);
     }
-    word(b"\n");
+    print(b"\n");
 }

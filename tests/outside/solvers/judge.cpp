@@ -27,8 +27,8 @@ std::string ratio_text(const Graph &graph) {
     return std::to_string(graph.p) + "/" + std::to_string(graph.q);
 }
 
-// The least mean is from -1 on and below 0 just where p/q is the least ratio of a cycle that earns,
-// and no cycle without reward costs less than 0.
+// The least mean is from -1 on and below 0 if and only if p/q is the least ratio of a cycle that
+// earns, and no cycle without reward costs less than 0.
 int judge_lemon(const Graph &graph) {
     const Mean mean = lemon_mean(graph);
     if (!mean.found) return fail(graph, "LEMON finds no cycle");

@@ -22,10 +22,10 @@ struct WideSums : lemon::HowardMmcDefaultTraits<Digraph, Weights> {
     static_assert(std::numeric_limits<LargeCost>::is_integer, "the library has to know the type");
 };
 
-// The mean tells where p/q stands. With w for q * cost - p * reward, an arc weighs w times one more
+// The mean tells whether p/q is the least ratio. With w for q * cost - p * reward, an arc weighs w times one more
 // than there are nodes, and 1 less where it earns. A cycle that meets no node twice then has a mean
-// below -1 just where its w is below 0; from -1 on and below 0 just where its w is 0 and it earns;
-// and 0 or more otherwise: also where its w is 0 and it earns nothing.
+// below -1 if and only if its w is below 0; from -1 on and below 0 if and only if its w is 0 and it
+// earns; and 0 or more otherwise: also where its w is 0 and it earns nothing.
 inline Mean lemon_mean(const Graph &graph) {
     typedef lemon::SmartDigraph Digraph;
     typedef Digraph::ArcMap<long long> Weights;

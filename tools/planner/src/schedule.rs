@@ -62,7 +62,7 @@ impl Sum {
         Sum { time: nths * self.time, cost: nths * self.cost, reward: nths * self.reward }
     }
 
-    /// In units, of which each has so many nths.
+    /// In units, of which each has this number of nths.
     pub fn words(&self, nths: i64) -> String {
         let [time, cost, reward] = [self.time, self.cost, self.reward].map(|count| fraction(count.into(), nths.into()));
         format!("takes {time}, costs {cost}, earns {reward}")

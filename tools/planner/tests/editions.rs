@@ -42,7 +42,7 @@ fn the_longest_sheets_come_back() {
     assert_eq!(question(&[&encode(&longest(Edition::First))[..], &[0; 76]].concat()), Some(10));
 }
 
-/// A location with a bound of each clock, and an edge with the guard of one, by the bit that stands for it.
+/// A location with a bound of each clock, and an edge with the guard of one, by the bit that means it.
 #[test]
 fn each_guard_has_its_bit() {
     for (edition, lower, upper) in [(Edition::First, 3, 6), (Edition::Second, 3, 7)] {
@@ -104,7 +104,7 @@ fn a_sheet_that_fits_both_editions_has_as_many_bytes_and_the_same_plan() {
     assert!(accepted > 50 && refused > 50, "{accepted} accepted, {refused} refused");
 }
 
-/// A description with so many clocks, and its edition where one is asked for.
+/// A description with a given number of clocks, and its edition where one is asked for.
 fn described(asked: Option<u8>, clocks: usize) -> String {
     let names = &["a", "b", "c", "d", "e"][..clocks];
     let bounds: String = names.iter().map(|name| format!("  {name} <= 1\n")).collect();

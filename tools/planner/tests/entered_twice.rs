@@ -86,7 +86,7 @@ fn an_edge_with_a_mistake_is_not_compared() {
     assert_eq!(mistakes(&altered("edge second: a -> b", "edge second: a -> c")).len(), 1);
 }
 
-/// One location and so many edges, each with a cost of its own and no other field: six bytes each, from byte 6 on.
+/// One location and a given number of edges, each with a cost of its own and no other field: six bytes each, from byte 6 on.
 fn edges(count: usize) -> Vec<u8> {
     let mut sheet = Sheet { clocks: vec!["x".to_string()], ..Sheet::default() };
     sheet.locations.push(Location { upper: [Some(5), None, None, None], ..Location::default() });

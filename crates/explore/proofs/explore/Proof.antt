@@ -1,9 +1,9 @@
 -- The sheet and the lengths are tested, and the search is called.
-use mathlib.Core.Path.{refl, sym, _∙_}
 use denote.Ref.{now}
 use native.Mathlib.Omega.{arith}
 use borrow.Author.Tests.{not-true, not-false}
 use Rattle.explore.specs.Buffers.{GraphBuffers, graphBuffers}
+use Rattle.explore.proofs.AnswerLaws.{malformed-answered}
 use Rattle.explore.proofs.LengthLaws.{long-of, not-long}
 use Rattle.explore.proofs.explore.Statement.{statement}
 use Rattle.explore.proofs.explore.Tie as tie
@@ -23,23 +23,25 @@ abbrev C : tie.After-slice-known16 → tie.After-search
 C c = c .before .before .before .before .before .before .before .before .before .before .before .before .before .before .before .before .before
 
 returns : tie.Need-returns
-returns c = ((λ w. omega (arith, c .if1 .taken, w .not-refused)), refl)
+returns c = let s = S (c .before) in malformed-answered (s .args .sheet) (entry s) (λ w. omega (arith, c .if1 .taken, w .not-refused))
 
 counts-in-range-requires : tie.Need-counts-in-range-requires
 counts-in-range-requires c κs = tt
 
 returns-2 : tie.Need-returns-2
 returns-2 c =
+    let s = S (c .before .before .before) in
     let test = c .before .counts-in-range in
-    ((λ w. test .ensures .1 (not-true (test .result) (c .if2 .taken)) (w .counts)), refl)
+    malformed-answered (s .args .sheet) (entry s) (λ w. test .ensures .1 (not-true (test .result) (c .if2 .taken)) (w .counts))
 
 long-enough-requires : tie.Need-long-enough-requires
 long-enough-requires c κs = tt
 
 returns-3 : tie.Need-returns-3
 returns-3 c =
+    let s = S (c .before .before .before .before .before) in
     let test = c .before .long-enough in
-    ((λ w. not-long (entry (S (c .before .before .before .before .before))) (sym (test .ensures) ∙ not-true (test .result) (c .if3 .taken)) (w .room)), refl)
+    malformed-answered (s .args .sheet) (entry s) (λ w. not-long (entry s) (test .result) (test .ensures) (not-true (test .result) (c .if3 .taken)) (w .room))
 
 search-requires : tie.Need-search-requires
 search-requires c κs =
@@ -49,7 +51,7 @@ search-requires c κs =
     record {
       not-refused = omega (arith, first .if1 .left);
       counts = counts .before .counts-in-range .ensures .0 (not-false (counts .before .counts-in-range .result) (counts .if2 .left));
-      room = long-of (entry (S (first .before))) (sym (long .before .long-enough .ensures) ∙ not-false (long .before .long-enough .result) (long .if3 .left));
+      room = long-of (entry (S (first .before))) (long .before .long-enough .result) (long .before .long-enough .ensures) (not-false (long .before .long-enough .result) (long .if3 .left));
     }
 
 same-length : tie.Need-same-length

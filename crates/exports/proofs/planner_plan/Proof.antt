@@ -11,23 +11,23 @@ use Rattle.exports.proofs.planner_plan.Tie as tie
 plan-requires : tie.Need-plan-requires
 plan-requires c κs = search needs
 
-word-requires : tie.Need-word-requires
-word-requires c κs = search needs
+wide-u32-requires : tie.Need-wide-u32-requires
+wide-u32-requires c κs = search needs
 
-half-requires : tie.Need-half-requires
-half-requires c κs = search needs
+wide-u16-requires : tie.Need-wide-u16-requires
+wide-u16-requires c κs = search needs
 
-half-requires-2 : tie.Need-half-requires-2
-half-requires-2 c κs = search needs
+wide-u16-requires-2 : tie.Need-wide-u16-requires-2
+wide-u16-requires-2 c κs = search needs
 
-half-requires-3 : tie.Need-half-requires-3
-half-requires-3 c κs = search needs
+wide-u16-requires-3 : tie.Need-wide-u16-requires-3
+wide-u16-requires-3 c κs = search needs
 
-half-requires-4 : tie.Need-half-requires-4
-half-requires-4 c κs = search needs
+wide-u16-requires-4 : tie.Need-wide-u16-requires-4
+wide-u16-requires-4 c κs = search needs
 
-word-requires-2 : tie.Need-word-requires-2
-word-requires-2 c κs = search needs
+wide-u32-requires-2 : tie.Need-wide-u32-requires-2
+wide-u32-requires-2 c κs = search needs
 
 same-length : tie.Need-same-length
 same-length c = search needs
@@ -47,25 +47,25 @@ returns c =
     let plan = t .before .before .before .before .before .before .plan in
     exported (answerOf (plan .result)) (plan .ensures) refl
     (toZ-ofZ w64 _ (sfits-of (t .struct-told .given .1 .0 .1)))
-    (toZ-ofZ w64 _ (sfits-of (w .word .ok)) ∙ w .word .ensures)
-    (toZ-ofZ w64 _ (sfits-of (m .before .before .half .ok)) ∙ m .before .before .half .ensures)
-    (toZ-ofZ w64 _ (sfits-of (m .before .half2 .ok)) ∙ m .before .half2 .ensures)
-    (toZ-ofZ w64 _ (sfits-of (m .half3 .ok)) ∙ m .half3 .ensures)
-    (toZ-ofZ w64 _ (sfits-of (h .half4 .ok)) ∙ h .half4 .ensures)
+    (toZ-ofZ w64 _ (sfits-of (w .wide-u32 .ok)) ∙ w .wide-u32 .ensures)
+    (toZ-ofZ w64 _ (sfits-of (m .before .before .wide-u16 .ok)) ∙ m .before .before .wide-u16 .ensures)
+    (toZ-ofZ w64 _ (sfits-of (m .before .wide-u162 .ok)) ∙ m .before .wide-u162 .ensures)
+    (toZ-ofZ w64 _ (sfits-of (m .wide-u163 .ok)) ∙ m .wide-u163 .ensures)
+    (toZ-ofZ w64 _ (sfits-of (h .wide-u164 .ok)) ∙ h .wide-u164 .ensures)
     (toZ-ofZ w64 _ (sfits-of (c .before .struct-told2 .given .1 .1 .1 .1 .1 .1 .1 .0 .1)))
-    (toZ-ofZ w64 _ (sfits-of (c .word2 .ok)) ∙ c .word2 .ensures)
+    (toZ-ofZ w64 _ (sfits-of (c .wide-u322 .ok)) ∙ c .wide-u322 .ensures)
 
 pub planner-plan-spec : {M : Type 1} → statement M
 planner-plan-spec =
     tie.close
     (tie.spec
     plan-requires
-    word-requires
-    half-requires
-    half-requires-2
-    half-requires-3
-    half-requires-4
-    word-requires-2
+    wide-u32-requires
+    wide-u16-requires
+    wide-u16-requires-2
+    wide-u16-requires-3
+    wide-u16-requires-4
+    wide-u32-requires-2
     same-length
     same-length-2
     same-length-3

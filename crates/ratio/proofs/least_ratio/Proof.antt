@@ -55,11 +55,11 @@ enum-told-2 c = search needs
 enum-known-found : tie.Need-enum-known-found
 enum-known-found c = search needs
 
-slice-aggregate-beyond : tie.Need-slice-aggregate-beyond
-slice-aggregate-beyond c = search needs
+slice-aggregate-least-from : tie.Need-slice-aggregate-least-from
+slice-aggregate-least-from c = search needs
 
-beyond-requires : tie.Need-beyond-requires
-beyond-requires c κs =
+least-from-requires : tie.Need-least-from-requires
+least-from-requires c κs =
     let f = c .before .before .before .before in
     let k = f .found .given .0 .0 in
     let r = f .before .before .before .before in
@@ -99,13 +99,13 @@ returns-4 c =
     )
 
 same-length : tie.Need-same-length
-same-length c = c .before .before .before .before .beyond .kept .1 .1 .1 .1 .1 .0
+same-length c = c .before .before .before .before .least-from .kept .1 .1 .1 .1 .1 .0
 
 same-length-2 : tie.Need-same-length-2
-same-length-2 c = c .before .before .before .before .beyond .kept .1 .1 .1 .1 .1 .1 .0
+same-length-2 c = c .before .before .before .before .least-from .kept .1 .1 .1 .1 .1 .1 .0
 
 returns-5 : tie.Need-returns-5
-returns-5 c = c .before .before .before .before .beyond .ensures
+returns-5 c = c .before .before .before .before .least-from .ensures
 
 pub least-ratio-spec : {M : Type 1} → statement M
 least-ratio-spec =
@@ -119,8 +119,8 @@ least-ratio-spec =
     enum-told
     enum-told-2
     enum-known-found
-    slice-aggregate-beyond
-    beyond-requires
+    slice-aggregate-least-from
+    least-from-requires
     returns-3
     returns-4
     same-length

@@ -7,10 +7,10 @@ use Rattle.ratio_cases.proofs.ring.Statement.{statement}
 use Rattle.ratio_cases.proofs.ring.Tie as tie
 
 abbrev Inv-loop : tie.InvT-loop
-Inv-loop name price first other from₀ to₀ cost reward i₀ from to i = (i ≤ 2048) × ((length from ≡ 2048) × (length to ≡ 2048))
+Inv-loop name each first other from₀ to₀ cost reward i₀ from to i = (i ≤ 2048) × ((length from ≡ 2048) × (length to ≡ 2048))
 
 abbrev μ-loop : tie.MeasureT-loop
-μ-loop name price first other from₀ to₀ cost reward i₀ from to i = 2048 - i
+μ-loop name each first other from₀ to₀ cost reward i₀ from to i = 2048 - i
 
 array-write-reward : tie.Need-array-write-reward Inv-loop μ-loop
 array-write-reward c = search needs

@@ -15,8 +15,8 @@ returns c =
     let if1 = c .before .if1 in
     c .refused .ensures ∙ step-refused (args .sheet) (args .number) (args .code) (if1 .taken)
 
-is-number-requires : tie.Need-is-number-requires
-is-number-requires c κs = search needs
+is-number-of-requires : tie.Need-is-number-of-requires
+is-number-of-requires c κs = search needs
 
 refused-requires-2 : tie.Need-refused-requires-2
 refused-requires-2 c κs = search needs
@@ -25,10 +25,10 @@ returns-2 : tie.Need-returns-2
 returns-2 c =
     let args = c .before .before .before .before .args in
     let if1 = c .before .before .before .if1 in
-    let is-number = c .before .before .is-number in
+    let is-number-of = c .before .before .is-number-of in
     let if2 = c .before .if2 in
     c .refused2 .ensures ∙ step-nowhere (args .sheet) (args .number) (args .code) (if1 .left)
-    (sym (is-number .ensures) ∙ not-true (is-number .result) (if2 .taken))
+    (sym (is-number-of .ensures) ∙ not-true (is-number-of .result) (if2 .taken))
 
 step-from-requires : tie.Need-step-from-requires
 step-from-requires c κs = search needs
@@ -37,10 +37,10 @@ returns-3 : tie.Need-returns-3
 returns-3 c =
     let args = c .before .before .before .before .args in
     let if1 = c .before .before .before .if1 in
-    let is-number = c .before .before .is-number in
+    let is-number-of = c .before .before .is-number-of in
     let if2 = c .before .if2 in
     c .step-from .ensures ∙ step-answered (args .sheet) (args .number) (args .code) (if1 .left)
-    (sym (is-number .ensures) ∙ not-false (is-number .result) (if2 .left))
+    (sym (is-number-of .ensures) ∙ not-false (is-number-of .result) (if2 .left))
 
 pub step-in-spec : {M : Type 1} → statement M
 step-in-spec =
@@ -48,7 +48,7 @@ step-in-spec =
     (tie.spec
     refused-requires
     returns
-    is-number-requires
+    is-number-of-requires
     refused-requires-2
     returns-2
     step-from-requires

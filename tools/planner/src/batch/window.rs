@@ -78,11 +78,18 @@ mod tests {
                 return;
             }
         });
-        let soon = || places.recv_timeout(Duration::from_millis(200)).ok();
-        assert_eq!([soon(), soon(), soon()], [Some(Some(0)), Some(Some(1)), None]);
+        // what has to come is waited for; what must not come has a while to come
+        let next = || places.recv().expect("the thread goes on");
+        let nothing = || {
+            std::thread::sleep(Duration::from_millis(200));
+            places.try_recv().is_err()
+        };
+        assert_eq!([next(), next()], [Some(0), Some(1)]);
+        assert!(nothing(), "two are not printed yet");
         window.printed(1);
-        assert_eq!([soon(), soon()], [Some(Some(2)), None]);
+        assert_eq!(next(), Some(2));
+        assert!(nothing(), "again two are not printed yet");
         window.close();
-        assert_eq!(places.recv_timeout(Duration::from_secs(10)), Ok(None), "a thread that waits is told");
+        assert_eq!(next(), None, "a thread that waits is told");
     }
 }

@@ -104,7 +104,7 @@ impl<'a> Reader<'a> {
         }
     }
 
-    /// What stands behind a keyword: so many words, and no more.
+    /// What follows a keyword: a given number of words, and no more.
     fn line_of<const N: usize>(&mut self, keyword: &str, form: &str) -> Result<[&'a str; N], Mistake> {
         let words = self.words().unwrap_or_default();
         match words.split_first() {

@@ -2,8 +2,8 @@
 
 mod batch;
 mod check;
-mod convert;
 mod draw;
+mod forms;
 mod plan;
 mod replay;
 mod verify;
@@ -45,7 +45,7 @@ fn one(command: &Command, words: &Words) -> Result<Answer, Stop> {
         "replay" => replay::replay(words),
         "draw" => draw::draw(command, words),
         "batch" => batch::batch(command, words),
-        _ => convert::convert(command, words),
+        _ => forms::in_other_form(command, words),
     }
 }
 

@@ -8,9 +8,9 @@ use crate::sheet::Sheet;
 pub const MARGIN: f64 = 16.0;
 /// Below heading and second line.
 const HEAD: f64 = 66.0;
-/// Names are cut behind so many signs.
+/// Names are cut behind this number of signs.
 pub const NAME: usize = 28;
-/// In a wide picture names stand again each so many pixels.
+/// In a wide picture names are repeated at this number of pixels.
 const AGAIN: f64 = 1200.0;
 
 /// The panel of a clock: its place, and the value at its upper end in units.

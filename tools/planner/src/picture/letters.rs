@@ -93,7 +93,7 @@ pub fn width(text: &str, size: f64) -> f64 {
     text.chars().map(em).sum::<f64>() * size
 }
 
-/// A name of at most so many signs. A longer one has an ellipsis in its middle, as like names often differ at the end.
+/// A name of at most this number of signs. A longer one has an ellipsis in its middle, as like names often differ at the end.
 pub fn cut(name: &str, most: usize) -> String {
     let signs: Vec<char> = name.chars().collect();
     if signs.len() <= most {

@@ -1,6 +1,6 @@
 //! Difference constraints on times in nths, and on how long a cycle takes.
 //!
-//! A time is n times that of a corner point, and so many nths later; a cycle takes n times what it takes by the
+//! A time is n times that of a corner point, and some nths later; a cycle takes n times what it takes by the
 //! corner points, and `shift` nths more. A strict constraint leaves one nth of room.
 
 /// The time `to` is at most the time `from`, plus n times `slack`, plus `turns` times the shift, less `room`, all
@@ -22,7 +22,7 @@ impl Constraint {
 
 /// The sum of constraints that lead round and contradict each other.
 fn contradiction(constraints: &[Constraint], by: &[usize], from: usize) -> Constraint {
-    // so many steps back lead onto the round
+    // as many steps back as there are times lead onto the round
     let onto = (0..by.len()).fold(from, |at, _| constraints[by[at]].from);
     let (mut sum, mut at) = (Constraint::default(), onto);
     loop {

@@ -17,7 +17,7 @@ struct Times {
 }
 
 impl Times {
-    /// Time `to` less time `from` is at most so many units and so many times what the cycle takes, less `room` nths.
+    /// Time `to` less time `from` is at most `units`, and `turns` times what the cycle takes, less `room` nths.
     fn at_most(&mut self, to: usize, from: usize, units: i64, turns: i64, room: i64) {
         let slack = units + turns * self.period - self.times[to] + self.times[from];
         self.constraints.push(Constraint { to, from, slack, turns, room });

@@ -88,7 +88,7 @@ fn part(head: &str, rows: &str, sums: &str, basis: &str) -> String {
     format!("\n{head}:\n{rows}  {sums} ({basis})\n")
 }
 
-/// How often a cycle comes round that takes so many nths.
+/// How often a cycle comes round that takes this number of nths.
 fn period(time: i64, nths: i64) -> String {
     match time {
         0 => "cycle, repeating, in no time".to_string(),

@@ -1,4 +1,4 @@
-//! Walks of least weight from the start: those by tight steps, from a node's potential to just that of the next.
+//! Walks of least weight from the start: those by tight steps, from a node's potential to exactly that of the next.
 
 use crate::certificate::Certificate;
 use crate::nodes::{node, steps, Node};

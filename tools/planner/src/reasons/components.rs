@@ -1,4 +1,4 @@
-//! Strongly connected components: an arc lies on a cycle just where both its ends are in one component.
+//! Strongly connected components: an arc lies on a cycle if and only if both its ends are in one component.
 
 use super::search::Graph;
 use crate::nodes::Arc;

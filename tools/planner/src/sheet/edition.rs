@@ -26,7 +26,7 @@ impl Edition {
         }
     }
 
-    /// The edition of a sheet with so many clocks that asks for none.
+    /// The edition of a sheet with this number of clocks that asks for none.
     pub fn least_for(clocks: usize) -> Edition {
         EDITIONS.into_iter().find(|edition| clocks <= edition.clocks()).unwrap_or(Edition::Second)
     }

@@ -3,7 +3,7 @@
 use super::edition::{Edition, BOUNDS, LOWER_GUARDS};
 use super::{Bytes, Edge, Location, Sheet};
 
-/// Bits from `first` on, for the clocks whose byte stands.
+/// Bits from `first` on, for the clocks that have a byte.
 fn clock_bits(bytes: &Bytes, first: usize) -> u16 {
     bytes.iter().enumerate().map(|(j, byte)| u16::from(byte.is_some()) << (first + j)).sum()
 }

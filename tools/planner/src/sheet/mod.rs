@@ -13,7 +13,7 @@ pub mod refusal;
 use edition::Edition;
 use limits::CLOCKS;
 
-/// A byte for each clock, where one stands.
+/// A byte for each clock, where it has one.
 pub type Bytes = [Option<u8>; CLOCKS];
 
 #[derive(Clone, Debug, Default, PartialEq, Eq)]

@@ -65,7 +65,7 @@ impl Reader<'_> {
         Ok((cost, reward))
     }
 
-    /// A byte for each clock whose bit stands in the map, from bit `first` on.
+    /// A byte for each clock whose bit is set in the map, from bit `first` on.
     pub fn bytes_of(&mut self, map: u16, first: usize, least: u8, what: &str) -> Result<Bytes, Refusal> {
         let mut found = Bytes::default();
         for (j, slot) in found.iter_mut().enumerate().take(self.clocks) {

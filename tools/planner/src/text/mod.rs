@@ -70,7 +70,7 @@ struct Parser {
     start_lost: bool,
 }
 
-/// After so many mistakes a text is not read further.
+/// After this number of mistakes a text is not read further.
 pub const MOST_MISTAKES: usize = 1000;
 
 /// The sheet, or all mistakes in the order of their places.

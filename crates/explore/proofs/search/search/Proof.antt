@@ -1,15 +1,16 @@
 -- Turn by turn; the lengths stay.
 mod Places
 use native.Mathlib.Omega.{arith}
-use Prim.Native.Nat.{_-_, _/_, _%_}
-use mathlib.Core.Path.{refl, ap, _∙_}
+use Prim.Native.Nat.{_/_, _%_}
+use mathlib.Core.Path.{refl, sym, ap, _∙_}
 use denote.Ref.{now}
 use lib.ListN.{length-set}
 use Rattle.sheet.specs.declared.Edge.{Edge}
 use Rattle.contract.proofs.Graphs.{code-below}
 use Rattle.nodes.specs.Decoded.{decodedMeaning, layoutIn}
 use Rattle.walks.specs.Walk.{at}
-use Rattle.explore.proofs.StepLaws.{start-zero, not-here}
+use Rattle.nodes.proofs.LayoutLaws.{start-zero}
+use Rattle.stepper.proofs.RecordLaws.{not-here}
 use Rattle.explore.proofs.CountLaws.{first, in-room, turns-fit, edge-place, edge-offset, location-offset, hint-offset}
 use Rattle.explore.proofs.SearchLaws.{begin, skip, done, filled}
 use Rattle.explore.proofs.EnterLaws.{small, no-arc, stopped, known-node, new-node}
@@ -18,11 +19,11 @@ use Rattle.explore.proofs.search.search.Statement.{statement}
 use Rattle.explore.proofs.search.search.Tie as tie
 use Rattle.explore.proofs.search.search.Proof.Places.{Inv-loop, μ-loop, P, J, E, F, T, Q, L, B, S, entry, here, after, long, numbers, record-is, turn, pushed, kept}
 
-records-requires : tie.Need-records-requires Inv-loop μ-loop
-records-requires c κs = tt
+edge-records-requires : tie.Need-edge-records-requires Inv-loop μ-loop
+edge-records-requires c κs = tt
 
-by-byte-requires : tie.Need-by-byte-requires Inv-loop μ-loop
-by-byte-requires c κs = tt
+location-records-requires : tie.Need-location-records-requires Inv-loop μ-loop
+location-records-requires c κs = tt
 
 slice-write-nodes : tie.Need-slice-write-nodes Inv-loop μ-loop
 slice-write-nodes c = first _ (c .before .before .before .before .before .before .before .before .before .before .before .before .pre .room .node)
@@ -70,18 +71,18 @@ loop-again c =
     let i = l .loop .inv in
     let t = l .loop .t in
     let k = numbers (c .before .before .before .before) in
-    let h = c .before .elsewhere .ensures (c .if1 .taken) in
-    let p = not-here (S l .args .sheet) (at (l .loop .nodes) (t / 34)) (t % 34) (h .0) (λ e. h .1 (ap (λ (r : Edge). r .source) (record-is (c .before .before) _ (h .0)) ∙ e)) in
+    let p = not-here (S l .args .sheet) (at (l .loop .nodes) (t / 34)) (t % 34) _ (λ h. ap (λ (r : Edge). r .source) (record-is (c .before .before) _ h))
+    (sym (c .before .elsewhere .ensures) ∙ c .if1 .taken) in
     (skip _ _ _ (here l) _ _ (t / 34) (t % 34) t (i .0) (k .code) (k .turn) (c .before .before .before .before .loop-test .taken) p, i .1)
 
-location-of-requires : tie.Need-location-of-requires Inv-loop μ-loop
-location-of-requires c κs = tt
+location-needed-requires : tie.Need-location-needed-requires Inv-loop μ-loop
+location-needed-requires c κs = tt
 
 mul-location : tie.Need-mul-location Inv-loop μ-loop
-mul-location c = location-offset _ (c .location-of .ensures .0)
+mul-location c = location-offset _ (c .location-needed .ensures .1)
 
 array-copy-out-location : tie.Need-array-copy-out-location Inv-loop μ-loop
-array-copy-out-location c = c .location-of .ensures .0
+array-copy-out-location c = c .location-needed .ensures .1
 
 step-at-requires : tie.Need-step-at-requires Inv-loop μ-loop
 step-at-requires c κs = tt
@@ -144,16 +145,16 @@ returns c =
     too-many-answered (S (L a) .args .sheet) (entry (S (L a))) _ (S (L a) .pre)
     (stopped (turn a) (e .before .before .before .before .before .before .if2 .left) _ _ _ _ _ (e .enter .ensures) (c .if3 .taken))
 
-join-requires : tie.Need-join-requires Inv-loop μ-loop
-join-requires c κs =
+set-ends-requires : tie.Need-set-ends-requires Inv-loop μ-loop
+set-ends-requires c κs =
     let e = c .before .before .before .before .before .before .before .before .before .before .before .before in
     let k = numbers (Q (T e)) in
     let r = long (L (T e)) in
     let j = small _ _ _ _ _ _ _ _ _ _ _ _ (L (T e) .loop .inv .0 .few-nodes) (e .enter .ensures) in
     (in-room _ 69632 _ (k .arcs) (r .from), (in-room _ 69632 _ (k .arcs) (r .to), (in-room _ 69632 _ (k .arcs) (r .code), (k .node-low, (j, k .code-low)))))
 
-price-requires : tie.Need-price-requires Inv-loop μ-loop
-price-requires c κs =
+set-prices-requires : tie.Need-set-prices-requires Inv-loop μ-loop
+set-prices-requires c κs =
     let a = T (E (c .before .before .before .before .before .before .before .before .before)) in
     let k = numbers (Q a) in
     (in-room _ 69632 _ (k .arcs) (long (L a) .cost), in-room _ 69632 _ (k .arcs) (long (L a) .reward))
@@ -233,8 +234,8 @@ search-spec =
     (tie.spec
     Inv-loop
     μ-loop
-    records-requires
-    by-byte-requires
+    edge-records-requires
+    location-records-requires
     slice-write-nodes
     slice-write-sorted
     slice-write-order
@@ -248,7 +249,7 @@ search-spec =
     elsewhere-requires
     loop-less
     loop-again
-    location-of-requires
+    location-needed-requires
     mul-location
     array-copy-out-location
     step-at-requires
@@ -268,8 +269,8 @@ search-spec =
     same-length-8
     same-length-9
     returns
-    join-requires
-    price-requires
+    set-ends-requires
+    set-prices-requires
     add-m
     cast-hints
     mul-hints

@@ -11,19 +11,19 @@ use Rattle.graph.proofs.climb.climb.Statement.{statement}
 use Rattle.graph.proofs.climb.climb.Tie as tie
 
 abbrev Inv-loop : tie.InvT-loop
-Inv-loop from parent order₀ v mark₀ x₀ top₀ order mark x top = Marks mark order 2048 x top × Climbs from parent mark order 2048 v x top
+Inv-loop from parent climbed₀ v mark₀ x₀ top₀ climbed mark x top = Marks mark climbed 2048 x top × Climbs from parent mark climbed 2048 v x top
 
 abbrev μ-loop : tie.MeasureT-loop
-μ-loop from parent order₀ v mark₀ x₀ top₀ order mark x top = top
+μ-loop from parent climbed₀ v mark₀ x₀ top₀ climbed mark x top = top
 
 -- the function's entry, from the loop's head
 abbrev S : tie.At-loop Inv-loop μ-loop → tie.Start Inv-loop μ-loop
 S c = c .before .before .before .before
 
-here : (c : tie.At-loop Inv-loop μ-loop) → (c .loop .x < 2048) × (c .loop .x < length (now (S c .args .parent))) × (length (c .loop .order) ≡ 2048)
-here c = let o : Marks (c .loop .mark) (c .loop .order) 2048 (c .loop .x) (c .loop .top) = c .loop .inv .0 in omega (arith, S c .pre .0 .par-len)
+here : (c : tie.At-loop Inv-loop μ-loop) → (c .loop .x < 2048) × (c .loop .x < length (now (S c .args .parent))) × (length (c .loop .climbed) ≡ 2048)
+here c = let o : Marks (c .loop .mark) (c .loop .climbed) 2048 (c .loop .x) (c .loop .top) = c .loop .inv .0 in omega (arith, S c .pre .0 .par-len)
 
--- the climb goes on: the place in order is one of the list's
+-- the climb goes on: the place in climbed is one of the list's
 some : (c : tie.In-loop Inv-loop μ-loop) → 1 ≤ c .before .loop .top
 some c = top-some (c .before .loop .inv .0) (c .loop-test .taken)
 
@@ -63,14 +63,14 @@ mul-mark c = omega (arith, here (c .before .before .before))
 array-write-mark : tie.Need-array-write-mark Inv-loop μ-loop
 array-write-mark c = here (c .before .before .before) .0
 
-sub-order : tie.Need-sub-order Inv-loop μ-loop
-sub-order c = omega arith
+sub-climbed : tie.Need-sub-climbed Inv-loop μ-loop
+sub-climbed c = omega arith
 
-mul-order : tie.Need-mul-order Inv-loop μ-loop
-mul-order c = omega (arith, top (c .before .before .before))
+mul-climbed : tie.Need-mul-climbed Inv-loop μ-loop
+mul-climbed c = omega (arith, top (c .before .before .before))
 
-slice-write-order : tie.Need-slice-write-order Inv-loop μ-loop
-slice-write-order c = omega (arith, here (c .before .before .before), top (c .before .before .before), some (c .before .before))
+slice-write-climbed : tie.Need-slice-write-climbed Inv-loop μ-loop
+slice-write-climbed c = omega (arith, here (c .before .before .before), top (c .before .before .before), some (c .before .before))
 
 sub-entry : tie.Need-sub-entry Inv-loop μ-loop
 sub-entry c = omega arith
@@ -102,4 +102,4 @@ climb-spec =
     tie.close
     (tie.spec
     Inv-loop μ-loop loop-holds mul-loop array-read-loop mul-p shared-slice-read-p same-length returns sub-top add-mark mul-mark array-write-mark
-    sub-order mul-order slice-write-order sub-entry entry-requires loop-less loop-again mul-end array-read-end same-length-2 returns-2)
+    sub-climbed mul-climbed slice-write-climbed sub-entry entry-requires loop-less loop-again mul-end array-read-end same-length-2 returns-2)

@@ -8,14 +8,14 @@ use Rattle.walks.proofs.Tests.{again, passed}
 use Rattle.graph.proofs.entries.weight.Statement.{statement}
 use Rattle.graph.proofs.entries.weight.Tie as tie
 
-price-requires : tie.Need-price-requires
-price-requires c κs = search needs
+cost-at-requires : tie.Need-cost-at-requires
+cost-at-requires c κs = search needs
 
-gain-requires : tie.Need-gain-requires
-gain-requires c κs = search needs
+reward-at-requires : tie.Need-reward-at-requires
+reward-at-requires c κs = search needs
 
 weigh-requires : tie.Need-weigh-requires
-weigh-requires c κs = let s = c .before .before .before in let p = c .before .price in let g = c .gain in (
+weigh-requires c κs = let s = c .before .before .before in let p = c .before .cost-at in let g = c .reward-at in (
   s .pre .0,
   (
     rw (passed (p .result) (p .ok) (p .ensures)) (s .pre .1 .1 .1 .0),
@@ -27,8 +27,8 @@ weighed : {r x y x' y' : ℤ} (a b c : ℤ) → mag r < 2 ^ 63 → r ≡ a *ℤ 
 weighed {r} a b c f e p q = rw (← p, ← q) (passed r f e)
 
 returns : tie.Need-returns
-returns c = let p = c .before .before .price in let g = c .before .gain in let k = c .before .before .before .before .args .k in
+returns c = let p = c .before .before .cost-at in let g = c .before .reward-at in let k = c .before .before .before .before .args .k in
     weighed (k .a) (k .b) (k .c) (c .weigh .ok) (c .weigh .ensures) (passed (p .result) (p .ok) (p .ensures)) (passed (g .result) (g .ok) (g .ensures))
 
 pub weight-spec : {M : Type 1} → statement M
-weight-spec = tie.close (tie.spec price-requires gain-requires weigh-requires returns)
+weight-spec = tie.close (tie.spec cost-at-requires reward-at-requires weigh-requires returns)

@@ -6,7 +6,8 @@ use borrow.Author.Needs.{needs}
 use denote.Ref.{now}
 use lib.IntN.{ℤ, natAbs}
 use Rattle.walks.specs.Walk.{atℤ}
-use Rattle.walks.proofs.Tests.{Test, fails, range-test}
+use Rattle.walks.specs.Tests.{Test}
+use Rattle.walks.proofs.Tests.{fails, range-test}
 use Rattle.graph.proofs.form.arc.Statement.{statement}
 use Rattle.graph.proofs.form.arc.Tie as tie
 
@@ -31,14 +32,14 @@ entry-requires-3 c κs = search needs
 returns-3 : tie.Need-returns-3
 returns-3 c = fails (λ p. omega (arith, p .reward-small, c .before .entry3 .ensures, c .if3 .taken))
 
-price-requires : tie.Need-price-requires
-price-requires c κs = search needs
+cost-at-requires : tie.Need-cost-at-requires
+cost-at-requires c κs = search needs
 
 is-within-requires : tie.Need-is-within-requires
 is-within-requires c κs = search needs
 
 Cost : (c : tie.After-is-within) → Test (natAbs (atℤ (now (S c .args .cost)) (S c .args .e)) ≤ 10000) (c .is-within .result)
-Cost c = let p = c .before .price in subst (λ (z : ℤ). Test (natAbs z ≤ 10000) (c .is-within .result)) (p .ensures)
+Cost c = let p = c .before .cost-at in subst (λ (z : ℤ). Test (natAbs z ≤ 10000) (c .is-within .result)) (p .ensures)
     (range-test 9999 (p .result) (p .ok) (c .is-within .ensures))
 
 returns-4 : tie.Need-returns-4
@@ -55,4 +56,4 @@ returns-4 c = record {
 pub arc-spec : {M : Type 1} → statement M
 arc-spec =
     tie.close
-    (tie.spec entry-requires returns entry-requires-2 returns-2 entry-requires-3 returns-3 price-requires is-within-requires returns-4)
+    (tie.spec entry-requires returns entry-requires-2 returns-2 entry-requires-3 returns-3 cost-at-requires is-within-requires returns-4)

@@ -9,9 +9,7 @@ use mir.Syntax.{w64}
 use mir.Val.{SFits}
 use mir.Facts.{toZ-ofZ}
 use Rattle.walks.specs.Walk.{at, atℤ}
-use Rattle.walks.proofs.Rounds.{start}
-use Rattle.walks.proofs.Codes.{code, codes}
-use Rattle.walks.proofs.Signed.{Less}
+use Rattle.walks.specs.SearchNumbers.{start, raised, raisedAll, Less}
 use Rattle.walks.proofs.Tests.{again, fits}
 use Rattle.walks.proofs.Signed.{elem}
 use Rattle.graph.proofs.potentials.improves.Statement.{statement}
@@ -19,8 +17,8 @@ use Rattle.graph.proofs.potentials.improves.Tie as tie
 
 -- the potential that was read
 E : (c : tie.After-y) → let s = c .before in
-    code start (again (atℤ (now (s .args .dist)) (s .args .v))) ≡ at (codes start (now (s .args .dist))) (s .args .v)
-E c = let s = c .before in elem start (now (s .args .dist)) (s .args .v) (s .pre .0) (c .y .given)
+    raised start (again (atℤ (now (s .args .potential)) (s .args .v))) ≡ at (raisedAll start (now (s .args .potential))) (s .args .v)
+E c = let s = c .before in elem start (now (s .args .potential)) (s .args .v) (s .pre .0) (c .y .given)
 
 mul-y : tie.Need-mul-y
 mul-y c = search needs
@@ -31,7 +29,7 @@ shared-slice-copy-out-y c = search needs
 less-requires : tie.Need-less-requires
 less-requires c κs = rw (E c) (c .before .pre .1)
 
-both : (x : ℤ) (y z : ℕ) (b : Bool) → SFits w64 x → y ≡ z → Less (code start (again x)) y b → Less (code start x) z b
+both : (x : ℤ) (y z : ℕ) (b : Bool) → SFits w64 x → y ≡ z → Less (raised start (again x)) y b → Less (raised start x) z b
 both x y z b h p l = rw p at (simp toZ-ofZ at l)
 
 returns : tie.Need-returns

@@ -15,7 +15,7 @@ same-length : tie.Need-same-length
 same-length c = search needs
 
 returns : tie.Need-returns
-returns c = stored (now (c .args .dist)) (c .args .v) (c .args .x) (c .fits .x)
+returns c = stored (now (c .args .potential)) (c .args .v) (c .args .x) (c .fits .x)
 
 pub put-spec : {M : Type 1} → statement M
 put-spec = tie.close (tie.spec mul-x slice-set-from-x same-length returns)

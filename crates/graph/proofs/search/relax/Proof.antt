@@ -8,7 +8,7 @@ use lib.ListN.{length}
 use lib.IntN.{ℤ, natAbs}
 use Rattle.walks.specs.Weight.{weightOf}
 use Rattle.walks.proofs.Tests.{again, fits, passed}
-use Rattle.walks.proofs.Coded.{coded-is, small}
+use Rattle.walks.proofs.RaisedWeights.{raised-weight-is, small}
 use Rattle.walks.proofs.RelaxTurns.{source, stamp, still, summable, target, positive, kept, changed}
 use Rattle.graph.proofs.search.relax.Statement.{statement}
 use Rattle.graph.proofs.search.relax.Tie as tie
@@ -28,11 +28,11 @@ W c = c .before .before .before
 
 -- ---- the indices
 Source : (c : tie.After-entry) → (c .entry .result < length (now (S c .args .parent)))
-    × (c .entry .result < length (now (S c .args .stamp))) × (c .entry .result < length (now (S c .args .dist)))
+    × (c .entry .result < length (now (S c .args .stamp))) × (c .entry .result < length (now (S c .args .potential)))
 Source c = let s = S c in source (s .pre .0) (s .pre .1) (c .entry .ensures)
 
 Target : (c : tie.After-entry2) → (c .entry2 .result < length (now (S (U c) .args .parent)))
-    × (c .entry2 .result < length (now (S (U c) .args .stamp))) × (c .entry2 .result < length (now (S (U c) .args .dist)))
+    × (c .entry2 .result < length (now (S (U c) .args .stamp))) × (c .entry2 .result < length (now (S (U c) .args .potential)))
 Target c = let u = U c in let s = S u in target (s .pre .0) (s .pre .1) (u .entry .ensures) (c .entry2 .ensures)
 
 -- ---- the weight, passed on
@@ -71,9 +71,9 @@ weight-requires : tie.Need-weight-requires
 weight-requires c κs = let s = S (U (c .before)) in let g = s .pre .0 .graph in let h = s .pre .1 in
     (s .pre .0 .in-range, (omega (arith, g .costs, h), (omega (arith, g .rewards, h), (g .arc _ h .cost-small, g .arc _ h .reward-small))))
 
-beyond-requires : tie.Need-beyond-requires
+sum-at-requires : tie.Need-sum-at-requires
 unfolding weightAt
-beyond-requires c κs = let v = V′ c in let u = U v in let s = S u in (
+sum-at-requires c κs = let v = V′ c in let u = U v in let s = S u in (
   omega (arith, Source u, Target v),
   (
     light _ _ _ (Weight c) (small (s .pre .0 .graph) (s .pre .0 .in-range) _ (s .pre .1)),
@@ -120,23 +120,23 @@ same-length-3 c = search needs
 
 returns-2 : tie.Need-returns-2
 unfolding weightAt
-returns-2 c = let i = c .before .before .before .before in let x = i .before .before .beyond in let w = W i in let v = V′ w in let u = U v in let s = S u in
+returns-2 c = let i = c .before .before .before .before in let x = i .before .before .sum-at in let w = W i in let v = V′ w in let u = U v in let s = S u in
     changed (s .pre .0) (s .pre .1) (u .entry .ensures) (v .entry2 .ensures) (fits (x .result) (x .ok)) (v .before .if1 .left)
-    (coded-is _ _ _ _ _ _ _ (Weight w)) (x .ensures) (i .improves .ensures) (c .before .before .before .if2 .taken) _ (c .before .put .ensures)
+    (raised-weight-is _ _ _ _ _ _ _ (Weight w)) (x .ensures) (i .improves .ensures) (c .before .before .before .if2 .taken) _ (c .before .put .ensures)
 
 same-length-4 : tie.Need-same-length-4
 same-length-4 c = search needs
 
 returns-3 : tie.Need-returns-3
 unfolding weightAt
-returns-3 c = let i = c .before in let x = i .before .before .beyond in let w = W i in let v = V′ w in let u = U v in let s = S u in
+returns-3 c = let i = c .before in let x = i .before .before .sum-at in let w = W i in let v = V′ w in let u = U v in let s = S u in
     kept (s .pre .0) (s .pre .1) (u .entry .ensures) (v .entry2 .ensures) (fits (x .result) (x .ok)) (v .before .if1 .left)
-    (coded-is _ _ _ _ _ _ _ (Weight w)) (x .ensures) (i .improves .ensures) (c .if2 .left)
+    (raised-weight-is _ _ _ _ _ _ _ (Weight w)) (x .ensures) (i .improves .ensures) (c .if2 .left)
 
 pub relax-spec : {M : Type 1} → statement M
 relax-spec =
     tie.close
     (tie.spec
-    entry-requires mul-if1 slice-read-if1 add-if1 add-if1-2 returns entry-requires-2 weight-requires beyond-requires improves-requires
+    entry-requires mul-if1 slice-read-if1 add-if1 add-if1-2 returns entry-requires-2 weight-requires sum-at-requires improves-requires
     put-requires add-parent mul-parent slice-write-parent add-stamp add-stamp-2 mul-stamp slice-write-stamp same-length same-length-2
     same-length-3 returns-2 same-length-4 returns-3)

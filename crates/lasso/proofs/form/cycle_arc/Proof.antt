@@ -15,17 +15,17 @@ shared-slice-read-e c = search needs
 returns : tie.Need-returns
 returns c = fails (λ a. omega (arith, a .arc))
 
-node-requires : tie.Need-node-requires
-node-requires c κs = search needs
+entry-requires : tie.Need-entry-requires
+entry-requires c κs = search needs
 
 returns-2 : tie.Need-returns-2
 returns-2 c =
     let s = c .before .before .before .before .before in
     let n = s .args .nodes in
     record {
-      yes = λ e. record { arc = omega arith; source = omega (arith, c .node .ensures, ltb-true (c .node .result) n e) };
-      no = λ e a. omega (arith, c .node .ensures, ltb-false (c .node .result) n e, a .source);
+      yes = λ e. record { arc = omega arith; source = omega (arith, c .entry .ensures, ltb-true (c .entry .result) n e) };
+      no = λ e a. omega (arith, c .entry .ensures, ltb-false (c .entry .result) n e, a .source);
     }
 
 pub cycle-arc-spec : {M : Type 1} → statement M
-cycle-arc-spec = tie.close (tie.spec mul-e shared-slice-read-e returns node-requires returns-2)
+cycle-arc-spec = tie.close (tie.spec mul-e shared-slice-read-e returns entry-requires returns-2)

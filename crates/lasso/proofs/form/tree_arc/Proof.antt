@@ -16,25 +16,25 @@ shared-slice-read-e c = search needs
 returns : tie.Need-returns
 returns c = fails (λ a. omega (arith, a .arc))
 
-node-requires : tie.Need-node-requires
-node-requires c κs = search needs
+entry-requires : tie.Need-entry-requires
+entry-requires c κs = search needs
 
 returns-2 : tie.Need-returns-2
-returns-2 c = fails (λ a. c .if2 .taken (c .before .node .ensures ∙ a .ends))
+returns-2 c = fails (λ a. c .if2 .taken (c .before .entry .ensures ∙ a .ends))
 
-node-requires-2 : tie.Need-node-requires-2
-node-requires-2 c κs = search needs
+entry-requires-2 : tie.Need-entry-requires-2
+entry-requires-2 c κs = search needs
 
 returns-3 : tie.Need-returns-3
 returns-3 c =
     let s = c .before .before .before .before .before .before .before .before in
     let v = s .args .v in
     record {
-      yes = λ e. record { arc = omega arith; ends = sym (c .before .before .node .ensures) ∙ c .before .if2 .left; earlier = omega (arith, c .node2 .ensures, ltb-true (c .node2 .result) v e) };
-      no = λ e a. omega (arith, c .node2 .ensures, ltb-false (c .node2 .result) v e, a .earlier);
+      yes = λ e. record { arc = omega arith; ends = sym (c .before .before .entry .ensures) ∙ c .before .if2 .left; earlier = omega (arith, c .entry2 .ensures, ltb-true (c .entry2 .result) v e) };
+      no = λ e a. omega (arith, c .entry2 .ensures, ltb-false (c .entry2 .result) v e, a .earlier);
     }
 
 pub tree-arc-spec : {M : Type 1} → statement M
 tree-arc-spec =
     tie.close
-    (tie.spec mul-e shared-slice-read-e returns node-requires returns-2 node-requires-2 returns-3)
+    (tie.spec mul-e shared-slice-read-e returns entry-requires returns-2 entry-requires-2 returns-3)

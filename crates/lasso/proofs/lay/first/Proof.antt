@@ -15,11 +15,11 @@ Inv-loop from cycle k t₀ best₀ i₀ t best i = (t < i) × ((i ≤ k) × ((be
 abbrev μ-loop : tie.MeasureT-loop
 μ-loop from cycle k t₀ best₀ i₀ t best i = k - i
 
-shared-slice-read-node : tie.Need-shared-slice-read-node Inv-loop μ-loop
-shared-slice-read-node c = omega (arith, c .before .before .before .pre .0, c .before .before .before .pre .1 .0)
+shared-slice-read-entry : tie.Need-shared-slice-read-entry Inv-loop μ-loop
+shared-slice-read-entry c = omega (arith, c .before .before .before .pre .0, c .before .before .before .pre .1 .0)
 
-node-requires : tie.Need-node-requires Inv-loop μ-loop
-node-requires c κs = c .before .before .before .pre .1 .1 0 (c .before .before .before .pre .0)
+entry-requires : tie.Need-entry-requires Inv-loop μ-loop
+entry-requires c κs = c .before .before .before .pre .1 .1 0 (c .before .before .before .pre .0)
 
 loop-holds : tie.Need-loop-holds Inv-loop μ-loop
 loop-holds c =
@@ -28,24 +28,24 @@ loop-holds c =
       (
         omega (arith, s .pre .0),
         (
-          c .node .ensures,
+          c .entry .ensures,
           (
             λ j h. let e : j ≡ 0 = omega arith in
-                omega (arith, c .node .ensures, ap (λ (i : ℕ). at (now (s .args .from)) (at (now (s .args .cycle)) i)) e),
+                omega (arith, c .entry .ensures, ap (λ (i : ℕ). at (now (s .args .from)) (at (now (s .args .cycle)) i)) e),
             λ j h. absurd (omega arith),
           ),
         ),
       ),
     )
 
-mul-node : tie.Need-mul-node Inv-loop μ-loop
-mul-node c = omega arith
+mul-entry : tie.Need-mul-entry Inv-loop μ-loop
+mul-entry c = omega arith
 
-shared-slice-read-node-2 : tie.Need-shared-slice-read-node-2 Inv-loop μ-loop
-shared-slice-read-node-2 c = omega (arith, c .before .before .before .before .before .before .before .pre .1 .0)
+shared-slice-read-entry-2 : tie.Need-shared-slice-read-entry-2 Inv-loop μ-loop
+shared-slice-read-entry-2 c = omega (arith, c .before .before .before .before .before .before .before .pre .1 .0)
 
-node-requires-2 : tie.Need-node-requires-2 Inv-loop μ-loop
-node-requires-2 c κs = c .before .before .before .before .before .before .before .pre .1 .1 (c .before .before .loop .i) (omega arith)
+entry-requires-2 : tie.Need-entry-requires-2 Inv-loop μ-loop
+entry-requires-2 c κs = c .before .before .before .before .before .before .before .pre .1 .1 (c .before .before .loop .i) (omega arith)
 
 add-i : tie.Need-add-i Inv-loop μ-loop
 add-i c = omega arith
@@ -57,7 +57,7 @@ loop-again : tie.Need-loop-again Inv-loop μ-loop
 loop-again c =
     let s = c .before .before .before .before .before .before .before .before .before in
     let l = c .before .before .before .before .loop in
-    let n = c .before .node2 in
+    let n = c .before .entry2 in
     let v = l .inv in
     ⊎-elim
     (λ w. (
@@ -102,12 +102,12 @@ first-spec =
     (tie.spec
     Inv-loop
     μ-loop
-    shared-slice-read-node
-    node-requires
+    shared-slice-read-entry
+    entry-requires
     loop-holds
-    mul-node
-    shared-slice-read-node-2
-    node-requires-2
+    mul-entry
+    shared-slice-read-entry-2
+    entry-requires-2
     add-i
     loop-less
     loop-again

@@ -23,7 +23,7 @@ C1 c = c .before .before .before .before .before
 abbrev H : tie.After-copy → tie.After-stem
 H c = c .before .before .before .before .before
 
-abbrev E : tie.After-node → tie.After-first
+abbrev E : tie.After-entry → tie.After-first
 E c = c .before .before .before
 
 abbrev S : tie.After-first → tie.Start
@@ -40,20 +40,20 @@ first-requires c κs =
 slice-aggregate-stem : tie.Need-slice-aggregate-stem
 slice-aggregate-stem c = search needs
 
-mul-node : tie.Need-mul-node
-mul-node c = search needs
+mul-entry : tie.Need-mul-entry
+mul-entry c = search needs
 
-shared-slice-read-node : tie.Need-shared-slice-read-node
-shared-slice-read-node c = let f = c .before .before in omega (arith, f .first .ensures .0, S f .pre .cycle-room)
+shared-slice-read-entry : tie.Need-shared-slice-read-entry
+shared-slice-read-entry c = let f = c .before .before in omega (arith, f .first .ensures .0, S f .pre .cycle-room)
 
-node-requires : tie.Need-node-requires
-node-requires c κs = let f = c .before .before in S f .pre .cycle-arcs (f .first .result) (f .first .ensures .0) .arc
+entry-requires : tie.Need-entry-requires
+entry-requires c κs = let f = c .before .before in S f .pre .cycle-arcs (f .first .result) (f .first .ensures .0) .arc
 
 stem-requires : tie.Need-stem-requires
 stem-requires c κs =
     let f = E c in
     let w = S f .pre in
-    (tree f, (rw (c .node .ensures) (w .cycle-arcs (f .first .result) (f .first .ensures .0) .source), (w .tree-room, omega (arith, w .few))))
+    (tree f, (rw (c .entry .ensures) (w .cycle-arcs (f .first .result) (f .first .ensures .0) .source), (w .tree-room, omega (arith, w .few))))
 
 sub-s : tie.Need-sub-s
 sub-s c = search needs
@@ -114,13 +114,13 @@ returns c =
     let t = h .stem in
     let f = E (h .before) in
     let s = S f in
-    let order = t .last .1 .1 .1 .0 in
+    let path = t .last .1 .1 .1 .0 in
     let w = t .ensures .1 .1 (tree f) in
-    let x = subst (λ (y : ℕ). Stem (now (s .args .from)) (now (s .args .to)) (length (now (s .args .from))) 0 (slice (t .result) (length order) order) y) (h .before .node .ensures) (w .0) in
+    let x = subst (λ (y : ℕ). Stem (now (s .args .from)) (now (s .args .to)) (length (now (s .args .from))) 0 (slice (t .result) (length path) path) y) (h .before .entry .ensures) (w .0) in
     let long = 2048 - t .result in
     -- the first part of the cycle stands behind the second
     let behind : copy3 .last .1 .1 .0 ≡ paste (copy2 .last .1 .1 .0) (long + (s .args .k - f .first .result)) (now (s .args .cycle)) (f .first .result) = copy3 .ensures in
-    laid-out (now (s .args .from)) (now (s .args .to)) (now (s .args .tree)) (now (s .args .cycle)) order (now (s .args .arcs)) (copy1 .last .1 .1 .0) (copy2 .last .1 .1 .0) (copy3 .last .1 .1 .0)
+    laid-out (now (s .args .from)) (now (s .args .to)) (now (s .args .tree)) (now (s .args .cycle)) path (now (s .args .arcs)) (copy1 .last .1 .1 .0) (copy2 .last .1 .1 .0) (copy3 .last .1 .1 .0)
     (s .args .nodes) (s .args .k) (t .result) (f .first .result) long (t .kept .1 .1 .1 .0) (t .ensures .0) (omega (arith, t .ensures .1 .0)) refl
     (f .first .ensures .0) (s .pre .cycle-room) (s .pre .arcs-room) (f .first .ensures .1 .0) (f .first .ensures .1 .1) x (w .1) (copy1 .ensures) (copy2 .ensures) behind
 
@@ -130,9 +130,9 @@ lay-out-spec =
     (tie.spec
     first-requires
     slice-aggregate-stem
-    mul-node
-    shared-slice-read-node
-    node-requires
+    mul-entry
+    shared-slice-read-entry
+    entry-requires
     stem-requires
     sub-s
     mul-copy

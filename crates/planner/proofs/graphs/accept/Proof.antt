@@ -25,11 +25,11 @@ abbrev W : tie.After-sums-of → tie.After-slice-known5
 W c = c .before .before
 
 -- after the steps are written
-abbrev E : tie.After-slice-known5 → tie.After-encode
+abbrev E : tie.After-slice-known5 → tie.After-write-codes
 E c = c .before .before .before .before .before .before
 
 -- after the potentials are
-abbrev P : tie.After-encode-arg → tie.After-permute
+abbrev P : tie.After-write-codes-arg → tie.After-permute
 P c = c .before .before .before .before .before .before
 
 -- where the stem's length is known
@@ -104,11 +104,11 @@ permute-requires c κs =
 clear-i64-requires : tie.Need-clear-i64-requires
 clear-i64-requires c κs = search needs
 
-slice-aggregate-encode : tie.Need-slice-aggregate-encode
-slice-aggregate-encode c = search needs
+slice-aggregate-write-codes : tie.Need-slice-aggregate-write-codes
+slice-aggregate-write-codes c = search needs
 
-encode-requires : tie.Need-encode-requires
-encode-requires c κs =
+write-codes-requires : tie.Need-write-codes-requires
+write-codes-requires c κs =
     let v = K (P c) in
     let s = S (L v) in
     codes-pickable (s .pre .0) (sized (L v)) (laid v) (now (s .args .steps)) (s .pre .1 .1 .1 .steps) (omega (arith, s .pre .0 .formed .some))
@@ -129,7 +129,7 @@ accepted-requires : tie.Need-accepted-requires
 accepted-requires c κs =
     let v = K (P (E (W c) .before)) in
     let s = S (L v) in
-    (s .pre .1 .1 .0, (s .pre .0 .formed .few, few v))
+    (s .pre .1 .1 .0, (omega (arith, s .pre .0 .formed .few, few v), few v))
 
 -- ---- what stands in the buffers at the end
 
@@ -144,7 +144,7 @@ left c =
     lentBuffers (P (e .before) .before .before .before .before .clear-u64 .last .0) (e .before .before .before .before .clear-i64 .last .0) (w .before .before .clear-u16 .last .0)
 
 written : (c : tie.After-accepted) → let v = K (P (E (W (c .before)) .before)) in let s = S (L v) in
-    Written (now (s .args .least)) (now (s .args .order)) (now (s .args .code)) (arcs (L v)) (s .args .n) (v .laid .given .0 .0 + s .args .k) (lent-to s) (left c)
+    Written (now (s .args .potential)) (now (s .args .order)) (now (s .args .code)) (arcs (L v)) (s .args .n) (v .laid .given .0 .0 + s .args .k) (lent-to s) (left c)
 written c =
     let w = W (c .before) in
     let e = E w in
@@ -158,11 +158,11 @@ written c =
     record {
       potentials = λ i h. front-stays _ _ _ D i (omega (arith, n)) ∙ p .permute .ensures .is i (omega (arith, n));
       potentials-rest = λ i h _. zeros-behind _ _ _ D i (omega (arith, n));
-      codes = λ i h. front-stays _ _ _ C i (omega (arith, few v)) ∙ e .encode .ensures .is i (omega (arith, few v));
+      codes = λ i h. front-stays _ _ _ C i (omega (arith, few v)) ∙ e .write-codes .ensures .is i (omega (arith, few v));
       steps-rest = λ i h _. zeros-behind _ _ _ C i (omega (arith, few v));
       nodes = λ i h. front-stays _ _ _ N i (omega (arith, n));
       nodes-rest = λ i h _. zeros-behind _ _ _ N i (omega (arith, n));
-      lengths = record { nodes = length-stays _ _ _ N; potentials = length-stays _ _ _ D ∙ p .permute .ensures .sized; steps = length-stays _ _ _ C ∙ e .encode .ensures .sized };
+      lengths = record { nodes = length-stays _ _ _ N; potentials = length-stays _ _ _ D ∙ p .permute .ensures .sized; steps = length-stays _ _ _ C ∙ e .write-codes .ensures .sized };
     }
 
 same-length : tie.Need-same-length
@@ -194,8 +194,8 @@ accept-spec =
     clear-u64-requires
     permute-requires
     clear-i64-requires
-    slice-aggregate-encode
-    encode-requires
+    slice-aggregate-write-codes
+    write-codes-requires
     clear-u16-requires
     slice-aggregate-sums-of
     sums-of-requires

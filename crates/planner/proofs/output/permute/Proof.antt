@@ -14,28 +14,28 @@ use Rattle.planner.proofs.output.permute.Statement.{statement}
 use Rattle.planner.proofs.output.permute.Tie as tie
 
 abbrev Inv-loop : tie.InvT-loop
-Inv-loop least order n potentials₀ i₀ potentials i = (i ≤ n) × Picked (pos 0) least order i potentials₀ potentials
+Inv-loop potential order n potentials₀ i₀ potentials i = (i ≤ n) × Picked (pos 0) potential order i potentials₀ potentials
 
 abbrev μ-loop : tie.MeasureT-loop
-μ-loop least order n potentials₀ i₀ potentials i = n - i
+μ-loop potential order n potentials₀ i₀ potentials i = n - i
 
 loop-holds : tie.Need-loop-holds Inv-loop μ-loop
-loop-holds c = let s = c .before in (omega arith, picked-none (pos 0) (now (s .args .least)) (now (s .args .order)) (now (s .args .potentials)))
+loop-holds c = let s = c .before in (omega arith, picked-none (pos 0) (now (s .args .potential)) (now (s .args .order)) (now (s .args .potentials)))
 
-mul-place : tie.Need-mul-place Inv-loop μ-loop
-mul-place c = omega arith
+mul-as-index : tie.Need-mul-as-index Inv-loop μ-loop
+mul-as-index c = omega arith
 
-shared-slice-read-place : tie.Need-shared-slice-read-place Inv-loop μ-loop
-shared-slice-read-place c = omega arith
+shared-slice-read-as-index : tie.Need-shared-slice-read-as-index Inv-loop μ-loop
+shared-slice-read-as-index c = omega arith
 
-place-requires : tie.Need-place-requires Inv-loop μ-loop
-place-requires c κs = tt
+as-index-requires : tie.Need-as-index-requires Inv-loop μ-loop
+as-index-requires c κs = tt
 
 mul-x : tie.Need-mul-x Inv-loop μ-loop
-mul-x c = let s = c .before .before .before .before .before in omega (arith, s .pre .there (c .before .before .before .loop .i) (omega arith), c .place .ensures)
+mul-x c = let s = c .before .before .before .before .before in omega (arith, s .pre .there (c .before .before .before .loop .i) (omega arith), c .as-index .ensures)
 
 shared-slice-copy-out-x : tie.Need-shared-slice-copy-out-x Inv-loop μ-loop
-shared-slice-copy-out-x c = let s = c .before .before .before .before .before in omega (arith, s .pre .there (c .before .before .before .loop .i) (omega arith), c .place .ensures)
+shared-slice-copy-out-x c = let s = c .before .before .before .before .before in omega (arith, s .pre .there (c .before .before .before .loop .i) (omega arith), c .as-index .ensures)
 
 mul-x-2 : tie.Need-mul-x-2 Inv-loop μ-loop
 mul-x-2 c = omega arith
@@ -54,8 +54,8 @@ loop-again c =
     let s = c .before .before .before .before .before .before in
     let l = c .before .before .before .before .loop in (
       omega arith,
-      picked-more (pos 0) (now (s .args .least)) (now (s .args .order)) (now (s .args .potentials)) (s .args .n) (l .i) (l .potentials) _ (s .pre) (omega arith)
-          (toZ-ofZ w64 _ (fits (atℤ (now (s .args .least)) (c .before .place .result)) (c .x .given)) ∙ ap (atℤ (now (s .args .least))) (c .before .place .ensures)) (l .inv .1),
+      picked-more (pos 0) (now (s .args .potential)) (now (s .args .order)) (now (s .args .potentials)) (s .args .n) (l .i) (l .potentials) _ (s .pre) (omega arith)
+          (toZ-ofZ w64 _ (fits (atℤ (now (s .args .potential)) (c .before .as-index .result)) (c .x .given)) ∙ ap (atℤ (now (s .args .potential))) (c .before .as-index .ensures)) (l .inv .1),
     )
 
 same-length : tie.Need-same-length Inv-loop μ-loop
@@ -66,7 +66,7 @@ returns c =
     let s = c .before .before .before in
     let l = c .before .loop in
     let e : l .i ≡ s .args .n = omega arith in
-    subst (λ (i : ℕ). Picked (pos 0) (now (s .args .least)) (now (s .args .order)) i (now (s .args .potentials)) (l .potentials)) e (l .inv .1)
+    subst (λ (i : ℕ). Picked (pos 0) (now (s .args .potential)) (now (s .args .order)) i (now (s .args .potentials)) (l .potentials)) e (l .inv .1)
 
 pub permute-spec : {M : Type 1} → statement M
 permute-spec =
@@ -75,9 +75,9 @@ permute-spec =
     Inv-loop
     μ-loop
     loop-holds
-    mul-place
-    shared-slice-read-place
-    place-requires
+    mul-as-index
+    shared-slice-read-as-index
+    as-index-requires
     mul-x
     shared-slice-copy-out-x
     mul-x-2

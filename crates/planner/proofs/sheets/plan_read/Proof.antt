@@ -13,7 +13,7 @@ use Rattle.contract.proofs.Graphs.{Room}
 use Rattle.explore.specs.Answer.{ExploreAnswered}
 use Rattle.explore.specs.Buffers.{GraphBuffers, graphBuffers, found}
 use Rattle.planner.specs.ContractTerms.{lentBuffers}
-use Rattle.planner.proofs.GraphLaws.{settled-refused}
+use Rattle.planner.proofs.GraphLaws.{settled-refused, due-number}
 use Rattle.planner.proofs.SheetLaws.{fresh, never, overfull, explored, few-arcs, handed, of-sheet}
 use borrow.Author.Needs.{needs}
 use Rattle.planner.proofs.sheets.plan_read.Statement.{statement}
@@ -189,13 +189,13 @@ same-length c = same (E (c .before .before .before)) .nodes
 returns : tie.Need-returns
 returns c =
     let x = E (c .before .before .before) in
-    λ o. settled-refused {after = after x} 12 (c .refused .ensures) (omega arith) (S x .pre .1, o .checked) (too-many-nodes (o .bytes) (before x) (S x .pre .1) (o .checked) (B x .node)
+    λ o. settled-refused {after = after x} 12 (due-number (c .refused .ensures) (omega arith)) (omega arith) (S x .pre .1, o .checked) (too-many-nodes (o .bytes) (before x) (S x .pre .1) (o .checked) (B x .node)
     (overfull (S x .args .read) (now (S x .args .nodes)) (B x) (x .explore .result) (told x) (c .before .enum-told .given .1) o))
 
 same-length-2 : tie.Need-same-length-2
 same-length-2 c =
     let g = c .before .before .before .before .before in
-    g .plan-graph .kept .1 .1 .1 .1 .1 .1 .1 .1 .0 ∙ same (X (K (g .before))) .nodes
+    _∙_ {b = length (B (X (K (g .before))) .sorted)} (g .plan-graph .kept .1 .1 .1 .1 .1 .1 .1 .1 .0) (same (X (K (g .before))) .nodes)
 
 same-length-3 : tie.Need-same-length-3
 same-length-3 c = search needs

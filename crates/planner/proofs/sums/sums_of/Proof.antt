@@ -24,7 +24,7 @@ abbrev μ-loop : tie.MeasureT-loop
 
 loop-holds : tie.Need-loop-holds Inv-loop μ-loop
 loop-holds c = let s = c .before .before .before in let a = s .args in
-    summed-none (now (a .code)) (now (a .cost)) (now (a .reward)) (now (a .arcs)) (a .from) (a .to) (s .pre .order)
+    summed-none (now (a .code)) (now (a .cost)) (now (a .reward)) (now (a .arcs)) (a .from) (a .to) (s .pre .ordered)
 
 sub-i : tie.Need-sub-i Inv-loop μ-loop
 sub-i c = omega arith

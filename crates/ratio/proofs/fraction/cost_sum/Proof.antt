@@ -26,19 +26,19 @@ loop-holds c = (search needs, (sum-none (atℤ (now (c .before .args .cost))) (n
 sub-i : tie.Need-sub-i Inv-loop μ-loop
 sub-i c = omega arith
 
-mul-cost-of : tie.Need-mul-cost-of Inv-loop μ-loop
-mul-cost-of c = omega (arith, c .before .before .before .pre .0, c .before .before .before .good .1 .0 .1, c .before .loop .inv .0)
+mul-cost-at : tie.Need-mul-cost-at Inv-loop μ-loop
+mul-cost-at c = omega (arith, c .before .before .before .pre .0, c .before .before .before .good .1 .0 .1, c .before .loop .inv .0)
 
-shared-slice-read-cost-of : tie.Need-shared-slice-read-cost-of Inv-loop μ-loop
-shared-slice-read-cost-of c = omega (arith, c .before .before .before .before .pre .0, c .before .before .loop .inv .0, c .before .loop-test .taken)
+shared-slice-read-cost-at : tie.Need-shared-slice-read-cost-at Inv-loop μ-loop
+shared-slice-read-cost-at c = omega (arith, c .before .before .before .before .pre .0, c .before .before .loop .inv .0, c .before .loop-test .taken)
 
-cost-of-requires : tie.Need-cost-of-requires Inv-loop μ-loop
-cost-of-requires c κs = c .before .before .before .before .pre .1 .1 (c .before .before .loop .i - 1) (omega (arith, c .before .loop-test .taken, c .before .before .loop .inv .0))
+cost-at-requires : tie.Need-cost-at-requires Inv-loop μ-loop
+cost-at-requires c κs = c .before .before .before .before .pre .1 .1 (c .before .before .loop .i - 1) (omega (arith, c .before .loop-test .taken, c .before .before .loop .inv .0))
 
 add-requires : tie.Need-add-requires Inv-loop μ-loop
 add-requires c κs =
     let s = c .before .before .before .before .before in
-    sum-fits (toZ w64 (c .before .before .before .loop .z)) (c .cost-of .result) (s .args .k - c .before .before .before .loop .i) (omega (arith, s .pre .1 .0)) (c .before .before .before .loop .inv .1 .1) (c .cost-of .ensures .1)
+    sum-fits (toZ w64 (c .before .before .before .loop .z)) (c .cost-at .result) (s .args .k - c .before .before .before .loop .i) (omega (arith, s .pre .1 .0)) (c .before .before .before .loop .inv .1 .1) (c .cost-at .ensures .1)
 
 loop-less : tie.Need-loop-less Inv-loop μ-loop
 loop-less c = omega arith
@@ -48,14 +48,14 @@ loop-again c =
     let s = c .before .before .before .before .before .before in
     let l = c .before .before .before .before .loop in
     let x = toZ w64 (l .z) in
-    let y = c .before .cost-of .result in
+    let y = c .before .cost-at .result in
     let j = s .args .k - l .i in
-    let e = sum-again x y j (omega (arith, s .pre .1 .0)) (l .inv .1 .1) (c .before .cost-of .ensures .1) (c .add .result) (c .add .ensures) in
-    let b = sum-bound x y j (omega (arith, s .pre .1 .0)) (l .inv .1 .1) (c .before .cost-of .ensures .1) in
+    let e = sum-again x y j (omega (arith, s .pre .1 .0)) (l .inv .1 .1) (c .before .cost-at .ensures .1) (c .add .result) (c .add .ensures) in
+    let b = sum-bound x y j (omega (arith, s .pre .1 .0)) (l .inv .1 .1) (c .before .cost-at .ensures .1) in
     let t = c .before .before .before .loop-test .taken in (
       omega (arith, l .inv .0),
       (
-        e ∙ ap₂ _+ℤ_ (c .before .cost-of .ensures .0) (l .inv .1 .0) ∙ sym (sum-more (now (s .args .arcs)) (l .i) (s .args .k) (omega arith) (l .inv .0) (s .pre .0) (atℤ (now (s .args .cost)))),
+        e ∙ ap₂ _+ℤ_ (c .before .cost-at .ensures .0) (l .inv .1 .0) ∙ sym (sum-more (now (s .args .arcs)) (l .i) (s .args .k) (omega arith) (l .inv .0) (s .pre .0) (atℤ (now (s .args .cost)))),
         rw e (omega (arith, b)),
       ),
     )
@@ -74,9 +74,9 @@ cost-sum-spec =
     μ-loop
     loop-holds
     sub-i
-    mul-cost-of
-    shared-slice-read-cost-of
-    cost-of-requires
+    mul-cost-at
+    shared-slice-read-cost-at
+    cost-at-requires
     add-requires
     loop-less
     loop-again

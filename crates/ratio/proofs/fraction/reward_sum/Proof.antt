@@ -23,19 +23,19 @@ loop-holds c = (search needs, (total-none (at (now (c .before .before .args .rew
 sub-i : tie.Need-sub-i Inv-loop μ-loop
 sub-i c = omega arith
 
-mul-reward-of : tie.Need-mul-reward-of Inv-loop μ-loop
-mul-reward-of c =
+mul-reward-at : tie.Need-mul-reward-at Inv-loop μ-loop
+mul-reward-at c =
     let s = c .before .before .before .before in
     omega (arith, s .pre .0, s .good .1 .0 .1, c .before .loop .inv .0)
 
-shared-slice-read-reward-of : tie.Need-shared-slice-read-reward-of Inv-loop μ-loop
-shared-slice-read-reward-of c = omega (arith, c .before .before .before .before .before .pre .0, c .before .before .loop .inv .0, c .before .loop-test .taken)
+shared-slice-read-reward-at : tie.Need-shared-slice-read-reward-at Inv-loop μ-loop
+shared-slice-read-reward-at c = omega (arith, c .before .before .before .before .before .pre .0, c .before .before .loop .inv .0, c .before .loop-test .taken)
 
-reward-of-requires : tie.Need-reward-of-requires Inv-loop μ-loop
-reward-of-requires c κs = c .before .before .before .before .before .pre .1 .1 (c .before .before .loop .i - 1) (omega (arith, c .before .loop-test .taken, c .before .before .loop .inv .0))
+reward-at-requires : tie.Need-reward-at-requires Inv-loop μ-loop
+reward-at-requires c κs = c .before .before .before .before .before .pre .1 .1 (c .before .before .loop .i - 1) (omega (arith, c .before .loop-test .taken, c .before .before .loop .inv .0))
 
 add-x : tie.Need-add-x Inv-loop μ-loop
-add-x c = omega (arith, c .before .before .before .before .before .before .pre .1 .0, c .reward-of .ensures .1, c .before .before .before .loop .inv .1 .1)
+add-x c = omega (arith, c .before .before .before .before .before .before .pre .1 .0, c .reward-at .ensures .1, c .before .before .before .loop .inv .1 .1)
 
 loop-less : tie.Need-loop-less Inv-loop μ-loop
 loop-less c = omega arith
@@ -47,8 +47,8 @@ loop-again c =
     let t = c .before .before .loop-test .taken in (
       omega (arith, l .inv .0),
       (
-        ap₂ _+_ (c .reward-of .ensures .0) (l .inv .1 .0) ∙ sym (total-more (now (s .args .arcs)) (l .i) (s .args .k) (omega arith) (l .inv .0) (s .pre .0) (at (now (s .args .reward)))),
-        omega (arith, l .inv .1 .1, l .inv .0, c .reward-of .ensures .1),
+        ap₂ _+_ (c .reward-at .ensures .0) (l .inv .1 .0) ∙ sym (total-more (now (s .args .arcs)) (l .i) (s .args .k) (omega arith) (l .inv .0) (s .pre .0) (at (now (s .args .reward)))),
+        omega (arith, l .inv .1 .1, l .inv .0, c .reward-at .ensures .1),
       ),
     )
 
@@ -67,9 +67,9 @@ reward-sum-spec =
     μ-loop
     loop-holds
     sub-i
-    mul-reward-of
-    shared-slice-read-reward-of
-    reward-of-requires
+    mul-reward-at
+    shared-slice-read-reward-at
+    reward-at-requires
     add-x
     loop-less
     loop-again

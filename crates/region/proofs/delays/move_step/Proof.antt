@@ -67,8 +67,8 @@ returns-2 c =
     carried (args .edition) (args .clocks) (args .location) (args .number) (few .result) (unpack .result) (few .ensures .0) (unpack .ensures)
     (largest-of .result) (largest-of .ensures) (after-carry .result) (after-carry .ensures) (sym (occurs-in .ensures) ∙ if1 .left) (if2 .taken) (c .land2 .result) (c .land2 .ensures)
 
-not-allowed-requires : tie.Need-not-allowed-requires
-not-allowed-requires c κs = search needs
+refused-requires : tie.Need-refused-requires
+refused-requires c κs = search needs
 
 returns-3 : tie.Need-returns-3
 returns-3 c =
@@ -79,7 +79,7 @@ returns-3 c =
     let occurs-in = c .before .before .before .before .before .occurs-in in
     let if1 = c .before .before .before .before .if1 in
     let if2 = c .before .if2 in
-    c .not-allowed .ensures ∙ stays (args .edition) (args .clocks) (args .location) (args .number) (few .result) (unpack .result) (few .ensures .0) (unpack .ensures)
+    c .refused .ensures ∙ stays (args .edition) (args .clocks) (args .location) (args .number) (few .result) (unpack .result) (few .ensures .0) (unpack .ensures)
     (largest-of .result) (largest-of .ensures) (sym (occurs-in .ensures) ∙ if1 .left) (if2 .left)
 
 pub move-step-spec : {M : Type 1} → statement M
@@ -96,5 +96,5 @@ move-step-spec =
     after-carry-requires
     land-requires-2
     returns-2
-    not-allowed-requires
+    refused-requires
     returns-3)

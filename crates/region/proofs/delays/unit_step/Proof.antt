@@ -16,8 +16,8 @@ unpack-requires c κs = search needs
 occurs-in-requires : tie.Need-occurs-in-requires
 occurs-in-requires c κs = search needs
 
-not-allowed-requires : tie.Need-not-allowed-requires
-not-allowed-requires c κs = search needs
+refused-requires : tie.Need-refused-requires
+refused-requires c κs = search needs
 
 returns : tie.Need-returns
 returns c =
@@ -26,14 +26,14 @@ returns c =
     let unpack = c .before .before .before .before .before .unpack in
     let occurs-in = c .before .before .occurs-in in
     let if1 = c .before .if1 in
-    c .not-allowed .ensures ∙ some-whole (args .edition) (args .clocks) (args .location) (args .number) (few .result) (unpack .result) (few .ensures .0) (unpack .ensures)
+    c .refused .ensures ∙ some-whole (args .edition) (args .clocks) (args .location) (args .number) (few .result) (unpack .result) (few .ensures .0) (unpack .ensures)
     (sym (occurs-in .ensures) ∙ if1 .taken)
 
 largest-of-requires : tie.Need-largest-of-requires
 largest-of-requires c κs = search needs
 
-not-allowed-requires-2 : tie.Need-not-allowed-requires-2
-not-allowed-requires-2 c κs = search needs
+refused-requires-2 : tie.Need-refused-requires-2
+refused-requires-2 c κs = search needs
 
 returns-2 : tie.Need-returns-2
 returns-2 c =
@@ -42,7 +42,7 @@ returns-2 c =
     let unpack = c .before .before .before .before .before .before .before .before .unpack in
     let if2 = c .before .if2 in
     let largest-of = c .before .before .before .largest-of in
-    c .not-allowed2 .ensures ∙ early (args .edition) (args .clocks) (args .location) (args .number) (few .result) (unpack .result) (few .ensures .0) (unpack .ensures)
+    c .refused2 .ensures ∙ early (args .edition) (args .clocks) (args .location) (args .number) (few .result) (unpack .result) (few .ensures .0) (unpack .ensures)
     (λ q. if2 .taken (q ∙ sym (largest-of .ensures)))
 
 pack-requires : tie.Need-pack-requires
@@ -69,10 +69,10 @@ unit-step-spec =
     few-requires
     unpack-requires
     occurs-in-requires
-    not-allowed-requires
+    refused-requires
     returns
     largest-of-requires
-    not-allowed-requires-2
+    refused-requires-2
     returns-2
     pack-requires
     returns-3)

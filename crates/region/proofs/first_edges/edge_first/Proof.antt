@@ -12,15 +12,15 @@ use Rattle.region.proofs.first_edges.edge_first.Tie as tie
 location-in-requires : tie.Need-location-in-requires
 location-in-requires c κs = search needs
 
-not-allowed-requires : tie.Need-not-allowed-requires
-not-allowed-requires c κs = search needs
+refused-requires : tie.Need-refused-requires
+refused-requires c κs = search needs
 
 returns : tie.Need-returns
 returns c =
     let args = c .before .before .before .before .args in
     let if1 = c .before .if1 in
     let location-in = c .before .before .before .location-in in
-    c .not-allowed .ensures ∙ elsewhere 1 (args .clocks) (args .edge) (args .target) (args .number) (λ q. if1 .taken (q ∙ sym (location-in .ensures)))
+    c .refused .ensures ∙ elsewhere 1 (args .clocks) (args .edge) (args .target) (args .number) (λ q. if1 .taken (q ∙ sym (location-in .ensures)))
 
 few-requires : tie.Need-few-requires
 few-requires c κs = search needs
@@ -31,8 +31,8 @@ unpack-first-requires c κs = search needs
 guards-hold-requires : tie.Need-guards-hold-requires
 guards-hold-requires c κs = search needs
 
-not-allowed-requires-2 : tie.Need-not-allowed-requires-2
-not-allowed-requires-2 c κs = search needs
+refused-requires-2 : tie.Need-refused-requires-2
+refused-requires-2 c κs = search needs
 
 returns-2 : tie.Need-returns-2
 returns-2 c =
@@ -41,7 +41,7 @@ returns-2 c =
     let unpack = c .before .before .before .before .before .unpack-first in
     let guards-hold = c .before .before .guards-hold in
     let if2 = c .before .if2 in
-    c .not-allowed2 .ensures ∙ unguarded 1 (args .clocks) (args .edge) (args .target) (args .number) (few .result) (unpack .result) (few .ensures .0)
+    c .refused2 .ensures ∙ unguarded 1 (args .clocks) (args .edge) (args .target) (args .number) (few .result) (unpack .result) (few .ensures .0)
     (unpack .ensures) (sym (guards-hold .ensures) ∙ not-true (guards-hold .result) (if2 .taken))
 
 after-edge-requires : tie.Need-after-edge-requires
@@ -54,8 +54,8 @@ after-edge-requires c κs =
 inside-requires : tie.Need-inside-requires
 inside-requires c κs = search needs
 
-not-allowed-requires-3 : tie.Need-not-allowed-requires-3
-not-allowed-requires-3 c κs = search needs
+refused-requires-3 : tie.Need-refused-requires-3
+refused-requires-3 c κs = search needs
 
 returns-3 : tie.Need-returns-3
 returns-3 c =
@@ -65,7 +65,7 @@ returns-3 c =
     let after-edge = c .before .before .before .before .after-edge in
     let inside = c .before .before .inside in
     let if3 = c .before .if3 in
-    c .not-allowed3 .ensures ∙ outside 1 (args .clocks) (args .edge) (args .target) (args .number) (few .result) (unpack .result) (few .ensures .0)
+    c .refused3 .ensures ∙ outside 1 (args .clocks) (args .edge) (args .target) (args .number) (few .result) (unpack .result) (few .ensures .0)
     (unpack .ensures) (after-edge .result) (after-edge .ensures) (sym (inside .ensures) ∙ not-true (inside .result) (if3 .taken))
 
 pack-first-requires : tie.Need-pack-first-requires
@@ -95,16 +95,16 @@ edge-first-spec =
     tie.close
     (tie.spec
     location-in-requires
-    not-allowed-requires
+    refused-requires
     returns
     few-requires
     unpack-first-requires
     guards-hold-requires
-    not-allowed-requires-2
+    refused-requires-2
     returns-2
     after-edge-requires
     inside-requires
-    not-allowed-requires-3
+    refused-requires-3
     returns-3
     pack-first-requires
     returns-4)

@@ -73,8 +73,10 @@ loop-again c =
         ⊎-elim
             (λ u. rw (u .1, u .2, u .3, u .4) (unit-comes (next p) (omega (arith, u .0))))
             (⊎-elim
+            (λ m. rw (m .1, m .2, m .3, m .4) (move-comes (next p) (omega (arith, m .0)) (λ q. omega (arith, m .0))))
+            (⊎-elim
             (λ e. rw (e .2, e .3, e .4, e .5) (edge-comes (next p) (omega (arith, e .1))))
-            (λ m. rw (m .2, m .3, m .4, m .5) (move-comes (next p) (omega (arith, m .1)) (λ q. omega (arith, m .0)))))
+            (λ m. rw (m .2, m .3, m .4, m .5) (move-comes (next p) (omega (arith, m .1)) (λ q. omega (arith, m .0))))))
             (c .match .came),
       ),
     )

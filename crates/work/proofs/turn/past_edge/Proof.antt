@@ -1,4 +1,5 @@
 -- Up to place i there is no edge.
+use mathlib.Core.Logic.{⊎-elim}
 use Prim.Native.Nat.{_-_, _≤_}
 use native.Mathlib.Omega.{arith}
 use denote.Ref.{now}
@@ -26,8 +27,8 @@ add-result c = omega arith
 
 returns : tie.Need-returns Inv-loop μ-loop
 returns c =
-    let s = c .before .before .before .before in
-    let l = c .before .before .before .loop in
+    let s = c .before .before .before .before .before in
+    let l = c .before .before .before .before .loop in
     (omega arith, (omega arith, found (now (s .args .codes)) (l .inv .1 .1) (l .inv .0) (omega arith) (s .pre .1) (omega arith)))
 
 add-i : tie.Need-add-i Inv-loop μ-loop
@@ -40,7 +41,7 @@ loop-again : tie.Need-loop-again Inv-loop μ-loop
 loop-again c =
     let s = c .before .before .before .before in
     let l = c .before .before .before .loop in
-    (omega arith, (omega arith, goes-on (now (s .args .codes)) (l .inv .1 .1) (l .inv .0) (omega arith) (s .pre .1) (omega arith)))
+    (omega arith, (omega arith, goes-on (now (s .args .codes)) (l .inv .1 .1) (l .inv .0) (omega arith) (s .pre .1) (⊎-elim (λ t. omega (arith, t .keys1)) (⊎-elim (λ t. omega (arith, t .keys2)) (λ t. omega (arith, t .1 .left))) (c .match .came))))
 
 returns-2 : tie.Need-returns-2 Inv-loop μ-loop
 returns-2 c = let s = c .before .before in (s .pre .0, (omega arith, ends (now (s .args .codes)) (c .before .loop .inv .1 .1) (omega arith)))

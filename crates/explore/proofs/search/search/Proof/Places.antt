@@ -17,6 +17,7 @@ use Rattle.nodes.specs.Decoded.{locationIn, edgeIn}
 use Rattle.region.specs.Answers.{answered}
 use Rattle.integers.proofs.Lists.{any-default}
 use Rattle.walks.specs.Walk.{at}
+use Rattle.stepper.proofs.RecordLaws.{answered-by}
 use Rattle.contract.specs.Explored.{stepRead, startRead}
 use Rattle.explore.specs.Buffers.{GraphBuffers, graphBuffers, HasRoom}
 use Rattle.explore.proofs.CountLaws.{Counts, counts, edge-place}
@@ -38,15 +39,15 @@ abbrev pub μ-loop : tie.MeasureT-loop
 -- ---- the places, from the end to the start
 
 -- where the arc's cost and reward are written
-abbrev pub P : tie.After-slice-known17 Inv-loop μ-loop → tie.After-price Inv-loop μ-loop
+abbrev pub P : tie.After-slice-known17 Inv-loop μ-loop → tie.After-set-prices Inv-loop μ-loop
 P c = c .before .before .before
 
 -- where its ends are
-abbrev pub J : tie.After-price Inv-loop μ-loop → tie.After-join Inv-loop μ-loop
+abbrev pub J : tie.After-set-prices Inv-loop μ-loop → tie.After-set-ends Inv-loop μ-loop
 J c = c .before .before .before .before .before .before .before .before .before .before
 
 -- where its target is entered
-abbrev pub E : tie.After-join Inv-loop μ-loop → tie.After-enter Inv-loop μ-loop
+abbrev pub E : tie.After-set-ends Inv-loop μ-loop → tie.After-enter Inv-loop μ-loop
 E c = c .before .before .before .before .before .before .before .before .before .before .before .before .before
 
 -- the same, where there is no room for it
@@ -86,11 +87,11 @@ entry s =
 abbrev pub here : tie.At-loop Inv-loop μ-loop → GraphBuffers
 here c = let l = c .loop in graphBuffers (l .nodes) (l .sorted) (l .order) (l .tree) (l .from) (l .to) (l .code) (l .cost) (l .reward)
 
-abbrev pub after : tie.After-price Inv-loop μ-loop → GraphBuffers
+abbrev pub after : tie.After-set-prices Inv-loop μ-loop → GraphBuffers
 after c =
     let v = E (J c) .enter .last in
-    let j = J c .join .last in
-    let p = c .price .last in
+    let j = J c .set-ends .last in
+    let p = c .set-prices .last in
     graphBuffers (v .0) (v .1 .0) (v .1 .1 .0) (v .1 .1 .1 .0) (j .0) (j .1 .0) (j .1 .1 .0) (p .0) (p .1 .0)
 
 pub long : (c : tie.At-loop Inv-loop μ-loop) → HasRoom (here c)
@@ -102,11 +103,11 @@ numbers c = let l = c .before .loop in counts (l .n) (l .m) (l .t) (l .inv .0 .f
 -- ---- turn t, where the step is answered
 
 pub record-is : (c : tie.After-edge Inv-loop μ-loop) (d : Edge) → let l = B c in let k = l .loop .t % 34 in
-    k < 32 → getD (l .before .before .before .records .result) (k % 32) d ≡ edgeIn (S l .args .sheet) k
+    k < 32 → getD (l .before .before .before .edge-records .result) (k % 32) d ≡ edgeIn (S l .args .sheet) k
 record-is c d low =
     let l = B c in
     let k = l .loop .t % 34 in
-    let rs = l .before .before .before .records in
+    let rs = l .before .before .before .edge-records in
     let e : k % 32 ≡ k = omega arith in
     any-default (rs .result) (k % 32) d blankEdge (subst (λ (n : ℕ). k % 32 < n) (sym (rs .ensures .1)) (edge-place (l .loop .t)))
     ∙ ap (λ (es : List Edge). getD es (k % 32) blankEdge) (rs .ensures .0) ∙ ap (edgeIn (S l .args .sheet)) e
@@ -121,17 +122,15 @@ module _ (c : tie.After-step-at Inv-loop μ-loop) where
   pub told : c .step-at .result ≡ answered (t % 34) (stepRead sheet (at (here (L c) .node) (t / 34)) (t % 34))
   told =
       let l = L c in
-      let b = l .before .by-byte in
-      let p = c .before .before .location-of in
-      let inside = subst (λ (n : ℕ). p .result < n) (sym (b .ensures .0)) (p .ensures .0) in
-      let location-is = any-default (b .result) (p .result) _ blankLocation inside ∙ b .ensures .1 (p .result) (p .ensures .0) in
-      c .step-at .ensures sheet (record {
+      let b = l .before .location-records in
+      let p = c .before .before .location-needed in
+      let inside = subst (λ (n : ℕ). p .result < n) (sym (b .ensures .0)) (p .ensures .1) in
+      answered-by sheet _ (t % 34) _ _ _ _ _ (c .step-at .result) (c .step-at .ensures) (record {
         edition-is = refl;
         clocks-are = refl;
         edges-are = refl;
         edge-is = record-is (R c) _;
-        target-is = λ low. location-is ∙ ap (locationIn sheet) (p .ensures .1 .0 low);
-        here-is = λ high. location-is ∙ ap (locationIn sheet) (p .ensures .1 .1 high);
+        location-is = any-default (b .result) (p .result) _ blankLocation inside ∙ b .ensures .1 (p .result) (p .ensures .1) ∙ ap (locationIn sheet) (p .ensures .0);
       })
 
   pub turn : Taken (stepRead sheet) (startRead sheet) (entry (S (L c))) (here (L c)) (L c .loop .n) (L c .loop .m)
@@ -151,27 +150,27 @@ module _ (c : tie.After-step-at Inv-loop μ-loop) where
 -- ---- what a turn with an arc has written
 
 -- the cost, as it is read back from its bits
-pub cost-is : (p : tie.After-price Inv-loop μ-loop) → let s = T (E (J p)) .step-at .result in toZ w16 (ofZ w16 (s .cost)) ≡ s .cost
+pub cost-is : (p : tie.After-set-prices Inv-loop μ-loop) → let s = T (E (J p)) .step-at .result in toZ w16 (ofZ w16 (s .cost)) ≡ s .cost
 cost-is p = toZ-ofZ w16 (T (E (J p)) .step-at .result .cost) (search needs)
 
-pub pushed : (p : tie.After-price Inv-loop μ-loop) → let a = T (E (J p)) in
+pub pushed : (p : tie.After-set-prices Inv-loop μ-loop) → let a = T (E (J p)) in
     Pushed (here (L a)) (after p) (L a .loop .m) (t a / 34) (E (J p) .enter .result) (t a % 34) (a .step-at .result)
 pushed p =
-    let j = J p .join .ensures in
+    let j = J p .set-ends .ensures in
     let l = L (T (E (J p))) in
     record {
       from = j .0;
       to = j .1 .0;
       code = j .1 .1;
-      cost = p .price .ensures .0 ∙ ap (λ (z : ℤ). set (here l .cost) (l .loop .m) z) (cost-is p);
-      reward = p .price .ensures .1;
+      cost = p .set-prices .ensures .0 ∙ ap (λ (z : ℤ). set (here l .cost) (l .loop .m) z) (cost-is p);
+      reward = p .set-prices .ensures .1;
     }
 
-pub kept : (p : tie.After-price Inv-loop μ-loop) → Same (seeded (entry (S (L (T (E (J p))))))) (after p)
+pub kept : (p : tie.After-set-prices Inv-loop μ-loop) → Same (seeded (entry (S (L (T (E (J p))))))) (after p)
 kept p =
     let v = E (J p) .enter .kept in
-    let j = J p .join .kept in
-    let w = p .price .kept in
+    let j = J p .set-ends .kept in
+    let w = p .set-prices .kept in
     let i = L (T (E (J p))) .loop .inv .1 in
     record {
       nodes = v .0 ∙ i .nodes;

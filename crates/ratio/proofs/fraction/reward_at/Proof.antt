@@ -1,0 +1,20 @@
+-- An entry of the slice fits.
+use borrow.Author.Needs.{needs}
+use native.Mathlib.Omega.{arith}
+use Rattle.ratio.proofs.fraction.reward_at.Statement.{statement}
+use Rattle.ratio.proofs.fraction.reward_at.Tie as tie
+
+mul-result : tie.Need-mul-result
+mul-result c = search needs
+
+shared-slice-read-result : tie.Need-shared-slice-read-result
+shared-slice-read-result c = search needs
+
+cast-result : tie.Need-cast-result
+cast-result c = omega (arith, c .shared-slice-known .given (c .before .args .e))
+
+returns : tie.Need-returns
+returns c = (search needs, omega (arith, c .shared-slice-known .given (c .before .args .e)))
+
+pub reward-at-spec : {M : Type 1} → statement M
+reward-at-spec = tie.close (tie.spec mul-result shared-slice-read-result cast-result returns)
