@@ -36,7 +36,7 @@ echo "cargo $1" >>"$CALLS"
 END
 chmod +x "$work/commands/rt" "$work/commands/cargo"
 export CALLS=$work/calls TOOL=$root/target/tools/release/planner FAILS=nothing
-built=$'rt check reader\nrt staticlib exports\ncargo build'
+built=$'rt check integers sheet reader\nrt staticlib exports\ncargo build'
 # as a new user has it: only the stand-ins and the system's commands
 set_up() { PATH=$work/commands:/usr/bin:/bin "$@"; }
 wanted=$(planner plan sheets/bench.txt)
@@ -110,7 +110,7 @@ expect "standard input while it builds" "$(sed 1d "$work/out")" "$(sed 1d <<<"$w
 
 # a build that fails is told, and tried again the next time
 touch "$copy/crates.txt"
-for failing in "check reader" "staticlib exports"; do
+for failing in "check integers sheet reader" "staticlib exports"; do
   case $failing in check*) said="rt check" ;; *) said="rt $failing" ;; esac
   for turn in first second; do
     ends "a $turn $said that fails" 69 env FAILS="$failing" PATH="$work/commands:/usr/bin:/bin" "$copy/tools/plan" sheets/bench.txt
