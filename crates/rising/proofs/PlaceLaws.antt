@@ -6,7 +6,7 @@ use native.Mathlib.Omega.{arith}
 use native.Mathlib.Decide.{ℕ-discrete, decLt}
 use lib.ListN.{length}
 use Rattle.walks.specs.Walk.{at}
-use Rattle.rising.specs.Place.{Rising, Place, ifBelow, passed, halve, placeIn}
+use Rattle.rising.specs.Place.{Rising, Place, ifBelow, skipped, halve, placeIn}
 use Rattle.rising.proofs.TurnLaws.{if-yes, if-no, turn, ended}
 
 module _ (K : List ℕ) (n x : ℕ) (g : Rising K n) where
@@ -22,10 +22,10 @@ module _ (K : List ℕ) (n x : ℕ) (g : Rising K n) where
 
   -- the upper half or the lower one, which may be longer by one
   half-left : (low size : ℕ) → 1 < size → Bracket low (low + size)
-      → Bracket (low + passed K x low size) (low + passed K x low size + (size - size / 2))
+      → Bracket (low + skipped K x low size) (low + skipped K x low size + (size - size / 2))
   half-left low size h b = elim (decLt (at K (low + size / 2)) x) [
     | yes u ↦
-        let e : passed K x low size ≡ size / 2 = if-yes (at K (low + size / 2)) x (size / 2) u in
+        let e : skipped K x low size ≡ size / 2 = if-yes (at K (low + size / 2)) x (size / 2) u in
         record {
           order = omega arith;
           within = omega (arith, b .within);
@@ -33,7 +33,7 @@ module _ (K : List ℕ) (n x : ℕ) (g : Rising K n) where
           above = λ a k m. b .above a (omega arith) m;
         }
     | no u ↦
-        let e : passed K x low size ≡ 0 = if-no (at K (low + size / 2)) x (size / 2) (omega arith) in
+        let e : skipped K x low size ≡ 0 = if-no (at K (low + size / 2)) x (size / 2) (omega arith) in
         record {
           order = omega arith;
           within = omega (arith, b .within);
@@ -63,7 +63,7 @@ module _ (K : List ℕ) (n x : ℕ) (g : Rising K n) where
   narrowed : (turns low size : ℕ) → size ≤ turns → Bracket low (low + size) → Place K n x (halve size K x low size)
   narrowed zero low size h b = subst (Place K n x) (sym (ended K x low size (omega arith))) (last-left low size (omega arith) b)
   narrowed (suc turns) low size h b =
-      let ih = narrowed turns (low + passed K x low size) (size - size / 2) in
+      let ih = narrowed turns (low + skipped K x low size) (size - size / 2) in
       elim (decLt 1 size) [
         | yes q ↦ subst (Place K n x) (sym (turn K x low size q)) (ih (omega arith) (half-left low size q b))
         | no q ↦ subst (Place K n x) (sym (ended K x low size (omega arith))) (last-left low size (omega arith) b)

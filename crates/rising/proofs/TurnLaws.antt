@@ -11,7 +11,7 @@ use lib.ListN.{length}
 use borrow.Author.Tests.{lt-ltb, le-ltb}
 use mir.Val.{boolByte}
 use Rattle.walks.specs.Walk.{at}
-use Rattle.rising.specs.Place.{ifBelow, passed, halve, placeIn}
+use Rattle.rising.specs.Place.{ifBelow, skipped, halve, placeIn}
 
 -- ---- a number times a test
 most : (b : Bool) (d : ℕ) → cond b d 0 ≤ d
@@ -35,21 +35,21 @@ module _ (v x d : ℕ) where
   pub if-no : x ≤ v → ifBelow v x d ≡ 0
   if-no h = ap (λ (b : Bool). cond b d 0) (le-ltb v x h)
 
-pub passed-most : (K : List ℕ) (x low size : ℕ) → passed K x low size ≤ size / 2
-passed-most K x low size = if-most (at K (low + size / 2)) x (size / 2)
+pub skipped-most : (K : List ℕ) (x low size : ℕ) → skipped K x low size ≤ size / 2
+skipped-most K x low size = if-most (at K (low + size / 2)) x (size / 2)
 
 -- ---- the turns
 module _ (K : List ℕ) (x : ℕ) where
   -- one more
-  more : (t low size : ℕ) → 1 < size → halve (suc t) K x low size ≡ halve t K x (low + passed K x low size) (size - size / 2)
+  more : (t low size : ℕ) → 1 < size → halve (suc t) K x low size ≡ halve t K x (low + skipped K x low size) (size - size / 2)
   unfolding halve
-  more t low size h = ap (λ (b : Bool). cond b (halve t K x (low + passed K x low size) (size - size / 2))
+  more t low size h = ap (λ (b : Bool). cond b (halve t K x (low + skipped K x low size) (size - size / 2))
       (low + ifBelow (at K low) x size)) (lt-ltb 1 size h)
 
   -- the last
   last : (t low size : ℕ) → size ≤ 1 → halve (suc t) K x low size ≡ low + ifBelow (at K low) x size
   unfolding halve
-  last t low size h = ap (λ (b : Bool). cond b (halve t K x (low + passed K x low size) (size - size / 2))
+  last t low size h = ap (λ (b : Bool). cond b (halve t K x (low + skipped K x low size) (size - size / 2))
       (low + ifBelow (at K low) x size)) (le-ltb 1 size h)
 
   none : (low size : ℕ) → size ≡ 0 → low ≡ low + ifBelow (at K low) x size
@@ -61,7 +61,7 @@ module _ (K : List ℕ) (x : ℕ) where
   enough zero (suc u) low size h k = none low size (omega arith) ∙ sym (last u low size (omega arith))
   enough (suc t) zero low size h k = last t low size (omega arith) ∙ sym (none low size (omega arith))
   enough (suc t) (suc u) low size h k =
-      let ih = enough t u (low + passed K x low size) (size - size / 2) in
+      let ih = enough t u (low + skipped K x low size) (size - size / 2) in
       elim (decLt 1 size) [
         | yes q ↦ more t low size q ∙ ih (omega arith) (omega arith) ∙ sym (more u low size q)
         | no q ↦ last t low size (omega arith) ∙ sym (last u low size (omega arith))
@@ -69,10 +69,10 @@ module _ (K : List ℕ) (x : ℕ) where
 
   -- with just as many turns as places
   pub turn : (low size : ℕ) → 1 < size
-      → halve size K x low size ≡ halve (size - size / 2) K x (low + passed K x low size) (size - size / 2)
+      → halve size K x low size ≡ halve (size - size / 2) K x (low + skipped K x low size) (size - size / 2)
   turn low zero h = absurd (omega arith)
   turn low (suc t) h = more t low (suc t) h
-      ∙ enough t (suc t - suc t / 2) (low + passed K x low (suc t)) (suc t - suc t / 2) (omega arith) (omega arith)
+      ∙ enough t (suc t - suc t / 2) (low + skipped K x low (suc t)) (suc t - suc t / 2) (omega arith) (omega arith)
 
   pub ended : (low size : ℕ) → size ≤ 1 → halve size K x low size ≡ low + ifBelow (at K low) x size
   unfolding halve
@@ -88,10 +88,10 @@ pub begun : (K : List ℕ) (n x size : ℕ) → size ≡ min n (length K) → Ha
 unfolding placeIn
 begun K n x size e = record { within = omega arith; comes = ap (λ (m : ℕ). halve m K x 0 m) e }
 
-pub halved : (K : List ℕ) (n x low size r : ℕ) → 1 < size → r ≡ passed K x low size → Halving K n x low size
+pub halved : (K : List ℕ) (n x low size r : ℕ) → 1 < size → r ≡ skipped K x low size → Halving K n x low size
     → Halving K n x (low + r) (size - size / 2)
 halved K n x low size r h e g = record {
-  within = omega (arith, g .within, passed-most K x low size);
+  within = omega (arith, g .within, skipped-most K x low size);
   comes = ap (λ (r : ℕ). halve (size - size / 2) K x (low + r) (size - size / 2)) e ∙ sym (turn K x low size h) ∙ g .comes;
 }
 

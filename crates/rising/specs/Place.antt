@@ -20,16 +20,16 @@ pub record Place (K : List ℕ) (n x p : ℕ) : Type 0 where
 abbrev pub ifBelow : ℕ → ℕ → ℕ → ℕ
 ifBelow v x d = cond (ltb v x) d 0
 
--- of the places from low to low + size, half are passed where the number behind that half is below x
-abbrev pub passed : List ℕ → ℕ → ℕ → ℕ → ℕ
-passed K x low size = ifBelow (at K (low + size / 2)) x (size / 2)
+-- of the places from low to low + size, half are skipped where the number behind that half is below x
+abbrev pub skipped : List ℕ → ℕ → ℕ → ℕ → ℕ
+skipped K x low size = ifBelow (at K (low + size / 2)) x (size / 2)
 
--- Halving: in each turn half of the places that are left are passed, or the others. As many turns as places are enough. Of a list that does not rise it
--- comes to some place, and this is the one.
+-- Halving: a turn leaves half of the places, from the same one on or from behind those that are skipped. As many turns as places are enough. Of a list
+-- that does not rise it comes to some place, and this is the one.
 unfoldable pub halve : ℕ → List ℕ → ℕ → ℕ → ℕ → ℕ
 halve zero K x low size = low
 halve (suc turns) K x low size =
-    cond (ltb 1 size) (halve turns K x (low + passed K x low size) (size - size / 2)) (low + ifBelow (at K low) x size)
+    cond (ltb 1 size) (halve turns K x (low + skipped K x low size) (size - size / 2)) (low + ifBelow (at K low) x size)
 
 -- of the first n entries, or of all where there are fewer
 unfoldable pub placeIn : List ℕ → ℕ → ℕ → ℕ
