@@ -1,1 +1,1 @@
-// No code: the theory of double-priced timed automata, as definitions in specs/ and laws in proofs/.
+// No code: the theory of double-priced timed automata.

@@ -1,1 +1,1 @@
-// No code: the contract of `plan`, what exploring hands over, and certificates of answers, as definitions in specs/ and laws in proofs/.
+// No code: the contract of `plan`, what exploring hands over, and certificates of answers.

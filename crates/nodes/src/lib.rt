@@ -1,1 +1,1 @@
-// No code: the automaton that a sheet means and the numbers of its nodes, as definitions in specs/ and laws in proofs/.
+// No code: the automaton that a sheet means and the numbers of its nodes.
