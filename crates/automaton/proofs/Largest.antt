@@ -1,5 +1,5 @@
 -- Laws of the largest entry: its rank, and the carry of the clocks that have it.
-use mathlib.Core.Path.{◌≡◌, refl, sym, ap, ap₂, ◌∙◌}
+use mathlib.Core.Path.{◌≡◌, refl, sym, ap, ap₂, subst, ◌∙◌}
 use mathlib.Core.Bool.{Bool, true, cond, ◌||◌, false≢true}
 use mathlib.Core.List.{List, [], ◌∷◌, map, map-map}
 use Prim.Native.Nat.{ℕ, zero, suc, ◌≤◌, ◌<◌, max}
@@ -33,7 +33,7 @@ largest_occurs [] h = absurd (omega arith)
 largest_occurs (x ∷ xs) h = by_bool (leb (largest xs) x)
     (λ e. let k = leb-true (largest xs) x e in occurs_here (max x (largest xs)) x xs (omega arith))
     (λ e. let k = leb-false (largest xs) x e in let q : max x (largest xs) ≡ largest xs = omega arith in
-    rw q (occurs_tail (largest xs) x xs (largest_occurs xs (omega arith))))
+    subst (λ (m : ℕ). occurs m (x ∷ xs) ≡ true) (sym q) (occurs_tail (largest xs) x xs (largest_occurs xs (omega arith))))
 
 largest_map : (g : ℕ → ℕ) → g 0 ≡ 0 → ((a b : ℕ) → a ≤ b → g a ≤ g b) → (xs : List ℕ) → largest (map g xs) ≡ g (largest xs)
 unfolding largest

@@ -34,10 +34,10 @@ fn digit_at(s: &[u8], at: usize) -> u8
 
 // Turns pairs of digits from a place on into bytes, and answers how many there are.
 pub(crate) fn unhex(s: &[u8], from: usize, out: &mut [u8]) -> usize
-    requires fact_1 { from ≤ 4096 }
-    requires fact_2 { length out.old ≤ 4096 }
-    ensures fact_1 { result ≤ length out.new }
-    ensures fact_2 { result ≤ 4096 }
+    requires from_in { from ≤ 4096 }
+    requires out_in { length out.old ≤ 4096 }
+    ensures within { result ≤ length out.new }
+    ensures in_room { result ≤ 4096 }
 {
     let mut n: usize = 0;
     while n < out.len() {

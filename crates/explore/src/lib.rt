@@ -12,7 +12,7 @@ mod index;
 mod search;
 
 // The sheet was refused or has a count out of range, or a buffer is too short; more than 2,048 nodes are reachable; or the numbers of nodes and of arcs.
-#[derive(Drop)]
+#[derive(Clone, Copy)]
 pub enum Outcome {
     Malformed,
     TooMany,
@@ -21,8 +21,8 @@ pub enum Outcome {
 
 // Whether the counts of locations, clocks and edges are in range in an edition.
 fn counts_in_range(edition: u8, locations: u8, clocks: u8, edges: u8) -> bool
-    ensures fact_1 { (result ≡ true → CountsInRange edition locations clocks edges) }
-    ensures fact_2 { (result ≡ false → CountsInRange edition locations clocks edges → ⊥) }
+    ensures yes { (result ≡ true → CountsInRange edition locations clocks edges) }
+    ensures no { (result ≡ false → CountsInRange edition locations clocks edges → ⊥) }
 {
     if locations < 1 {
         return false;

@@ -5,7 +5,7 @@ ghost use Rattle.walks.specs.SearchTerms.{View, Climbed};
 use crate::entries;
 
 // The places of a list from start up to end.
-#[derive(Drop)]
+#[derive(Clone, Copy)]
 pub(crate) struct Part {
     pub start: usize,
     pub end: usize,
@@ -14,9 +14,9 @@ pub(crate) struct Part {
 // Climbs from v, marking as it goes. Back at a marked node, the arcs from there on are a cycle, and stand in a part of climbed;
 // at a node without a parent the part is empty. parent[v] is the parent arc of v and 1, or 0.
 pub(crate) fn climb(from: &[u16], parent: &[usize], climbed: &mut [usize], v: usize) -> Part
-    requires fact_1 { View from.now parent.now 2048 }
-    requires fact_2 { v < 2048 }
-    requires fact_3 { length climbed.old ≡ 2048 }
+    requires is_view { View from.now parent.now 2048 }
+    requires in_view { v < 2048 }
+    requires climbed_length { length climbed.old ≡ 2048 }
     ensures { (g : View from.now parent.now 2048) →
         Climbed from.now g.T g.W g.m g.D g.st climbed.new 2048 v result.start result.end }
 {

@@ -4,8 +4,8 @@ ghost use Rattle.std.proofs.Math.Seq.{slice};
 
 // The first n potentials.
 pub(crate) fn potentials(s: &[i64], d: &mut [i64], n: usize)
-    requires fact_1 { n ≤ length s.now }
-    requires fact_2 { n ≤ length d.old }
+    requires source_room { n ≤ length s.now }
+    requires target_room { n ≤ length d.old }
     ensures { d.new ≡ take n s.now ++ drop n d.old }
 {
     let mut i = 0;
@@ -18,8 +18,8 @@ pub(crate) fn potentials(s: &[i64], d: &mut [i64], n: usize)
 
 // The n arcs from the place start on.
 pub(crate) fn arcs(s: &[usize], d: &mut [usize], start: usize, n: usize)
-    requires fact_1 { start + n ≤ length s.now }
-    requires fact_2 { n ≤ length d.old }
+    requires source_room { start + n ≤ length s.now }
+    requires target_room { n ≤ length d.old }
     ensures { d.new ≡ slice start (start + n) s.now ++ drop n d.old }
 {
     let mut i = 0;

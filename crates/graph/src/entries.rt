@@ -45,9 +45,9 @@ fn reward_at(reward: &[u16], e: usize) -> i64
 }
 
 fn weigh(k: Coefficients, x: i64, y: i64) -> i64
-    requires fact_1 { CoefficientsInRange k.a k.b k.c }
-    requires fact_2 { nat_abs x ≤ 10000 }
-    requires fact_3 { nat_abs y ≤ 10000 }
+    requires in_range { CoefficientsInRange k.a k.b k.c }
+    requires x_small { nat_abs x ≤ 10000 }
+    requires y_small { nat_abs y ≤ 10000 }
     ensures { result ≡ k.a *ℤ x +ℤ k.b *ℤ y +ℤ k.c }
 {
     let a = k.a;
@@ -57,11 +57,11 @@ fn weigh(k: Coefficients, x: i64, y: i64) -> i64
 }
 
 pub(crate) fn weight(cost: &[i16], reward: &[u16], k: Coefficients, e: usize) -> i64
-    requires coefficients_in_range_1 { CoefficientsInRange k.a k.b k.c }
-    requires coefficients_in_range_2 { e < length cost.now }
-    requires coefficients_in_range_3 { e < length reward.now }
-    requires e_bound_1 { nat_abs (atℤ cost.now e) ≤ 10000 }
-    requires e_bound_2 { at reward.now e ≤ 10000 }
+    requires in_range { CoefficientsInRange k.a k.b k.c }
+    requires cost_room { e < length cost.now }
+    requires reward_room { e < length reward.now }
+    requires cost_small { nat_abs (atℤ cost.now e) ≤ 10000 }
+    requires reward_small { at reward.now e ≤ 10000 }
     ensures { result ≡ weight_of k.a k.b k.c cost.now reward.now e }
 {
     weigh(k, cost_at(cost, e), reward_at(reward, e))

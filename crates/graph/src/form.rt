@@ -31,10 +31,10 @@ fn coefficients_in_range(k: Coefficients) -> bool
 }
 
 fn arc(from: &[u16], to: &[u16], cost: &[i16], reward: &[u16], nodes: usize, e: usize) -> bool
-    requires fact_1 { e < length from.now }
-    requires fact_2 { e < length to.now }
-    requires fact_3 { e < length cost.now }
-    requires fact_4 { e < length reward.now }
+    requires from_room { e < length from.now }
+    requires to_room { e < length to.now }
+    requires cost_room { e < length cost.now }
+    requires reward_room { e < length reward.now }
     ensures { Test (Arc from.now to.now cost.now reward.now nodes e) result }
 {
     if nodes <= entries::entry(from, e) {
@@ -51,8 +51,8 @@ fn arc(from: &[u16], to: &[u16], cost: &[i16], reward: &[u16], nodes: usize, e: 
 
 fn arcs(from: &[u16], to: &[u16], cost: &[i16], reward: &[u16], nodes: usize) -> bool
     requires to_len { length to.now ≡ length from.now }
-    requires cost_len_1 { length cost.now ≡ length from.now }
-    requires cost_len_2 { length reward.now ≡ length from.now }
+    requires cost_len { length cost.now ≡ length from.now }
+    requires reward_len { length reward.now ≡ length from.now }
     ensures { Test ((e : ℕ) → e < length from.now
         → Arc from.now to.now cost.now reward.now nodes e) result }
 {

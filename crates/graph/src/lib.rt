@@ -9,7 +9,7 @@ mod form;
 mod potentials;
 mod search;
 
-#[derive(Drop)]
+#[derive(Clone, Copy)]
 pub struct Coefficients {
     pub a: i64,
     pub b: i64,
@@ -17,7 +17,7 @@ pub struct Coefficients {
 }
 
 // Malformed arguments; or a cycle, by the number of its arcs; or the potentials.
-#[derive(Drop)]
+#[derive(Clone, Copy)]
 pub enum Answer {
     Malformed,
     Cycle(usize),

@@ -4,9 +4,9 @@ ghost use Rattle.walks.specs.Walk.{at};
 ghost use Rattle.walks.specs.SearchNumbers.{raised, raised_all, Sum, Less, TooLow, bias, start, most, deep};
 
 fn add(x: i64, y: i64) -> i64
-    requires fact_1 { start < raised start x + deep }
-    requires fact_2 { raised start x ≤ start + deep }
-    requires fact_3 { nat_abs y ≤ most }
+    requires low { start < raised start x + deep }
+    requires high { raised start x ≤ start + deep }
+    requires small { nat_abs y ≤ most }
     ensures { Sum (raised start x) (raised bias y) result }
 {
     x + y
@@ -14,10 +14,10 @@ fn add(x: i64, y: i64) -> i64
 
 // The sum of the potential of u and a weight.
 pub(crate) fn sum_at(potential: &[i64], u: usize, w: i64) -> i64
-    requires u_in_bounds_1 { u < length potential.now }
-    requires u_in_bounds_2 { nat_abs w ≤ most }
-    requires start_bound_1 { start < at (raised_all start potential.now) u + deep }
-    requires start_bound_2 { at (raised_all start potential.now) u ≤ start + deep }
+    requires in_list { u < length potential.now }
+    requires small { nat_abs w ≤ most }
+    requires low { start < at (raised_all start potential.now) u + deep }
+    requires high { at (raised_all start potential.now) u ≤ start + deep }
     ensures { Sum (at (raised_all start potential.now) u) (raised bias w) result }
 {
     let x = potential[u];
@@ -33,8 +33,8 @@ fn less(x: i64, y: i64) -> bool
 
 // Whether x is below the potential of v.
 pub(crate) fn improves(potential: &[i64], v: usize, x: i64) -> bool
-    requires fact_1 { v < length potential.now }
-    requires fact_2 { 0 < at (raised_all start potential.now) v }
+    requires in_list { v < length potential.now }
+    requires found { 0 < at (raised_all start potential.now) v }
     ensures { Less (raised start x) (at (raised_all start potential.now) v) result }
 {
     let y = potential[v];

@@ -85,14 +85,14 @@ pub(crate) fn search(
     potential: &mut [i64],
     cycle: &mut [usize],
 ) -> usize
-    requires graph_1 { Graph from.now to.now cost.now reward.now nodes }
-    requires graph_2 { CoefficientsInRange k.a k.b k.c }
-    requires nodes_in_bounds_1 { nodes ≤ length potential.old }
-    requires nodes_in_bounds_2 { nodes ≤ length cycle.old }
-    ensures cycle { 0 < result → CycleFound from.now to.now
+    requires is_graph { Graph from.now to.now cost.now reward.now nodes }
+    requires in_range { CoefficientsInRange k.a k.b k.c }
+    requires potential_room { nodes ≤ length potential.old }
+    requires cycle_room { nodes ≤ length cycle.old }
+    ensures cycle_found { 0 < result → CycleFound from.now to.now
         (weight_of k.a k.b k.c cost.now reward.now) nodes result
         potential.old potential.new cycle.old cycle.new }
-    ensures potentials { result ≡ 0 → PotentialsFound from.now to.now
+    ensures potentials_found { result ≡ 0 → PotentialsFound from.now to.now
         (weight_of k.a k.b k.c cost.now reward.now) nodes
         potential.old potential.new cycle.old cycle.new }
 {

@@ -12,8 +12,8 @@ pub(crate) fn entry(s: &[u16], e: usize) -> usize
 }
 
 fn tree_arc(from: &[u16], to: &[u16], tree: &[usize], v: usize) -> bool
-    requires fact_1 { v < length tree.now }
-    requires fact_2 { length to.now ≡ length from.now }
+    requires in_tree { v < length tree.now }
+    requires same_length { length to.now ≡ length from.now }
     ensures { Test (TreeArc from.now to.now tree.now v) result }
 {
     let e = tree[v];
@@ -27,8 +27,8 @@ fn tree_arc(from: &[u16], to: &[u16], tree: &[usize], v: usize) -> bool
 }
 
 fn tree_arcs(from: &[u16], to: &[u16], tree: &[usize], nodes: usize) -> bool
-    requires fact_1 { nodes ≤ length tree.now }
-    requires fact_2 { length to.now ≡ length from.now }
+    requires tree_room { nodes ≤ length tree.now }
+    requires same_length { length to.now ≡ length from.now }
     ensures { Test ((v : ℕ) → 0 < v → v < nodes → TreeArc from.now to.now tree.now v) result }
 {
     let mut v = 1;

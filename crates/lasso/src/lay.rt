@@ -9,13 +9,13 @@ use crate::form::entry;
 
 // The tree's arcs from node 0 to h, at the end of path; where they begin.
 fn stem(from: &[u16], tree: &[usize], nodes: usize, path: &mut [usize], h: usize) -> usize
-    requires fact_1 { Tree from.now tree.now nodes }
-    requires fact_2 { h < nodes }
-    requires fact_3 { nodes ≤ length tree.now }
-    requires fact_4 { nodes ≤ length path.old }
-    ensures fact_1 { result ≤ length path.old }
-    ensures fact_2 { length path.old ≤ result + nodes }
-    ensures fact_3 { ((g : Tree from.now tree.now nodes) → Stem from.now g.T g.m 0 (slice result (length path.new) path.new) h
+    requires is_tree { Tree from.now tree.now nodes }
+    requires in_tree { h < nodes }
+    requires tree_room { nodes ≤ length tree.now }
+    requires path_room { nodes ≤ length path.old }
+    ensures within { result ≤ length path.old }
+    ensures few { length path.old ≤ result + nodes }
+    ensures laid { ((g : Tree from.now tree.now nodes) → Stem from.now g.T g.m 0 (slice result (length path.new) path.new) h
         × AlongTree g.T tree.now (slice result (length path.new) path.new)) }
 {
     let mut x = h;
@@ -31,12 +31,12 @@ fn stem(from: &[u16], tree: &[usize], nodes: usize, path: &mut [usize], h: usize
 
 // The place of the first arc that leaves the first discovered node.
 fn first(from: &[u16], cycle: &[usize], k: usize) -> usize
-    requires fact_1 { 0 < k }
-    requires fact_2 { k ≤ length cycle.now }
-    requires fact_3 { ((i : ℕ) → i < k → at cycle.now i < length from.now) }
-    ensures fact_1 { result < k }
-    ensures fact_2 { ((i : ℕ) → i < k → at from.now (at cycle.now result) ≤ at from.now (at cycle.now i)) }
-    ensures fact_3 { ((i : ℕ) → i < result → at from.now (at cycle.now result) < at from.now (at cycle.now i)) }
+    requires some { 0 < k }
+    requires cycle_room { k ≤ length cycle.now }
+    requires arcs_in { ((i : ℕ) → i < k → at cycle.now i < length from.now) }
+    ensures in_cycle { result < k }
+    ensures least { ((i : ℕ) → i < k → at from.now (at cycle.now result) ≤ at from.now (at cycle.now i)) }
+    ensures earliest { ((i : ℕ) → i < result → at from.now (at cycle.now result) < at from.now (at cycle.now i)) }
 {
     let mut t = 0;
     let mut best = entry(from, cycle[0]);
@@ -54,8 +54,8 @@ fn first(from: &[u16], cycle: &[usize], k: usize) -> usize
 
 // The first n entries of s, from a place of d on.
 fn copy(s: &[usize], n: usize, d: &mut [usize], start: usize)
-    requires fact_1 { n ≤ length s.now }
-    requires fact_2 { start + n ≤ length d.old }
+    requires source_room { n ≤ length s.now }
+    requires target_room { start + n ≤ length d.old }
     ensures { d.new ≡ paste d.old start s.now n }
 {
     let mut i = 0;

@@ -6,7 +6,7 @@ mod form;
 mod lay;
 
 // Malformed arguments; or the length of the stem.
-#[derive(Drop)]
+#[derive(Clone, Copy)]
 pub enum Answer {
     Malformed,
     Laid(usize),

@@ -27,10 +27,10 @@ fn accept(
     potentials: &mut [i64],
     steps: &mut [u16],
 ) -> Answer
-    requires fact_1 { Cyclic from.now to.now code.now cost.now reward.now order.now tree.now cycle.now n k }
-    requires fact_2 { n ≤ length potential.now }
-    requires fact_3 { q ≤ 20480000 }
-    requires fact_4 { LongEnough (lent_buffers nodes.old potentials.old steps.old) }
+    requires cyclic { Cyclic from.now to.now code.now cost.now reward.now order.now tree.now cycle.now n k }
+    requires potential_room { n ≤ length potential.now }
+    requires q_small { q ≤ 20480000 }
+    requires long_enough { LongEnough (lent_buffers nodes.old potentials.old steps.old) }
     ensures { (o : Solved from.now to.now code.now cost.now reward.now order.now
         potential.now cycle.now n k p q (lent_buffers nodes.old potentials.old steps.old))
         → PlannedButForClearing o.of_sheet.bytes o.of_sheet.before (lent_buffers nodes.new potentials.new steps.new) (answer_of result) }
@@ -64,8 +64,8 @@ pub(crate) fn plan_graph(
     potentials: &mut [i64],
     steps: &mut [u16],
 ) -> Answer
-    requires fact_1 { Handed from.now to.now code.now cost.now reward.now order.now tree.now n }
-    requires fact_2 { LongEnough (lent_buffers nodes.old potentials.old steps.old) }
+    requires handed { Handed from.now to.now code.now cost.now reward.now order.now tree.now n }
+    requires long_enough { LongEnough (lent_buffers nodes.old potentials.old steps.old) }
     ensures { (o : OfSheet from.now to.now code.now cost.now reward.now order.now n
         (lent_buffers nodes.old potentials.old steps.old))
         → PlannedButForClearing o.bytes o.before (lent_buffers nodes.new potentials.new steps.new) (answer_of result) }

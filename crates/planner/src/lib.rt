@@ -10,7 +10,7 @@ mod sums;
 
 // The refusal, the ratio p / q, n reachable nodes, and a lasso: a stem of s steps and a cycle of m, with the units, the cost and the reward of
 // that cycle.
-#[derive(Drop)]
+#[derive(Clone, Copy)]
 pub struct Answer {
     pub refusal: u8,
     pub p: i64,

@@ -26,9 +26,9 @@ pub(crate) fn refused(refusal: u8) -> Answer
 
 // The numbers of an accepted sheet.
 pub(crate) fn accepted(p: i64, q: u64, n: usize, s: usize, m: usize, cycle: Sums) -> Answer
-    requires fact_1 { q ≤ 20480000 }
-    requires fact_2 { n ≤ 2048 }
-    requires fact_3 { s + m ≤ 2048 }
+    requires q_small { q ≤ 20480000 }
+    requires n_small { n ≤ 2048 }
+    requires lasso_short { s + m ≤ 2048 }
     ensures { answer_of result ≡ accepted p q n s m cycle.units cycle.cost cycle.reward }
 {
     Answer {
@@ -51,10 +51,10 @@ pub(crate) fn refuse(
     potentials: &mut [i64],
     steps: &mut [u16],
 ) -> Answer
-    ensures fact_1 { answer_of result ≡ Contract.refused_plan refusal }
-    ensures fact_2 { nodes.new ≡ replicate (length nodes.old) 0 }
-    ensures fact_3 { potentials.new ≡ replicate (length potentials.old) (pos 0) }
-    ensures fact_4 { steps.new ≡ replicate (length steps.old) 0 }
+    ensures value { answer_of result ≡ Contract.refused_plan refusal }
+    ensures nodes_cleared { nodes.new ≡ replicate (length nodes.old) 0 }
+    ensures potentials_cleared { potentials.new ≡ replicate (length potentials.old) (pos 0) }
+    ensures steps_cleared { steps.new ≡ replicate (length steps.old) 0 }
 {
     buffers::clear_u64(nodes, 0);
     buffers::clear_i64(potentials, 0);

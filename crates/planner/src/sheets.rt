@@ -13,8 +13,8 @@ pub(crate) fn plan_read(
     potentials: &mut [i64],
     steps: &mut [u16],
 ) -> Answer
-    requires fact_1 { ReadFrom read }
-    requires fact_2 { LongEnough (lent_buffers nodes.old potentials.old steps.old) }
+    requires read_so { ReadFrom read }
+    requires long_enough { LongEnough (lent_buffers nodes.old potentials.old steps.old) }
     ensures { (o : ReadFrom read) → PlannedButForClearing o.bytes (lent_buffers nodes.old potentials.old steps.old)
         (lent_buffers nodes.new potentials.new steps.new) (answer_of result) }
 {

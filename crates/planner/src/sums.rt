@@ -5,7 +5,7 @@ ghost use Rattle.walks.specs.Walk.{at, atℤ};
 ghost use Rattle.planner.specs.PrivatePromises.{Summable, SumsOf};
 
 // The units, the cost and the reward.
-#[derive(Drop)]
+#[derive(Clone, Copy)]
 pub(crate) struct Sums {
     pub(crate) units: u16,
     pub(crate) cost: i64,
@@ -13,8 +13,8 @@ pub(crate) struct Sums {
 }
 
 fn units_of(code: u16) -> u16
-    ensures fact_1 { result ≡ units_of code }
-    ensures fact_2 { result ≤ 1 }
+    ensures value { result ≡ units_of code }
+    ensures small { result ≤ 1 }
 {
     match code {
         0..=31 => 0,
@@ -27,16 +27,16 @@ fn units_of(code: u16) -> u16
 
 fn cost_of(cost: &[i16], e: usize) -> i64
     requires { e < length cost.now }
-    ensures fact_1 { result ≡ atℤ cost.now e }
-    ensures fact_2 { nat_abs result ≤ 32768 }
+    ensures value { result ≡ atℤ cost.now e }
+    ensures small { nat_abs result ≤ 32768 }
 {
     cost[e] as i64
 }
 
 fn reward_of(reward: &[u16], e: usize) -> u32
     requires { e < length reward.now }
-    ensures fact_1 { result ≡ at reward.now e }
-    ensures fact_2 { result < 65536 }
+    ensures value { result ≡ at reward.now e }
+    ensures small { result < 65536 }
 {
     reward[e] as u32
 }

@@ -3,8 +3,8 @@ ghost use Rattle.std.specs.Prelude.{◌≡◌, ◌++◌, ◌≤◌, length, take
 
 // The first n arcs.
 pub(crate) fn arcs(s: &[usize], d: &mut [usize], n: usize)
-    requires fact_1 { n ≤ length s.now }
-    requires fact_2 { n ≤ length d.old }
+    requires source_room { n ≤ length s.now }
+    requires target_room { n ≤ length d.old }
     ensures { d.new ≡ take n s.now ++ drop n d.old }
 {
     let mut i = 0;

@@ -7,7 +7,7 @@ ghost use Rattle.walks.specs.Walk.{at, atℤ};
 ghost use Rattle.walks.specs.Weight.{sum, total};
 ghost use Rattle.ratio.specs.Turns.{Reduced, Summed};
 
-#[derive(Drop)]
+#[derive(Clone, Copy)]
 pub(crate) struct Fraction {
     pub(crate) p: i64,
     pub(crate) q: u64,
@@ -15,8 +15,8 @@ pub(crate) struct Fraction {
 
 fn cost_at(cost: &[i16], e: usize) -> i64
     requires { e < length cost.now }
-    ensures fact_1 { result ≡ atℤ cost.now e }
-    ensures fact_2 { nat_abs result ≤ 32768 }
+    ensures value { result ≡ atℤ cost.now e }
+    ensures small { nat_abs result ≤ 32768 }
 {
     cost[e] as i64
 }
@@ -30,17 +30,17 @@ fn add(x: i64, y: i64) -> i64
 
 fn reward_at(reward: &[u16], e: usize) -> u64
     requires { e < length reward.now }
-    ensures fact_1 { result ≡ at reward.now e }
-    ensures fact_2 { result < 65536 }
+    ensures value { result ≡ at reward.now e }
+    ensures small { result < 65536 }
 {
     reward[e] as u64
 }
 
 // The cost of the first k arcs of a list.
 fn cost_sum(cost: &[i16], arcs: &[usize], k: usize) -> i64
-    requires k_in_bounds_1 { k ≤ length arcs.now }
-    requires k_in_bounds_2 { k ≤ 2048 }
-    requires by_index { (i : ℕ) → i < k → at arcs.now i < length cost.now }
+    requires arcs_room { k ≤ length arcs.now }
+    requires few { k ≤ 2048 }
+    requires arcs_in { (i : ℕ) → i < k → at arcs.now i < length cost.now }
     ensures { result ≡ sum (atℤ cost.now) (take k arcs.now) }
 {
     let mut z: i64 = 0;
@@ -54,9 +54,9 @@ fn cost_sum(cost: &[i16], arcs: &[usize], k: usize) -> i64
 
 // The reward of the first k arcs of a list.
 pub(crate) fn reward_sum(reward: &[u16], arcs: &[usize], k: usize) -> u64
-    requires k_in_bounds_1 { k ≤ length arcs.now }
-    requires k_in_bounds_2 { k ≤ 2048 }
-    requires by_index { (i : ℕ) → i < k → at arcs.now i < length reward.now }
+    requires arcs_room { k ≤ length arcs.now }
+    requires few { k ≤ 2048 }
+    requires arcs_in { (i : ℕ) → i < k → at arcs.now i < length reward.now }
     ensures { result ≡ total (at reward.now) (take k arcs.now) }
 {
     let mut x: u64 = 0;
@@ -92,8 +92,8 @@ fn with_sign(n: u64, z: i64) -> i64
 
 // cost / reward in lowest terms.
 fn reduce(cost: i64, reward: u64) -> Fraction
-    requires fact_1 { nat_abs cost ≤ 20480000 }
-    requires fact_2 { 0 < reward }
+    requires cost_small { nat_abs cost ≤ 20480000 }
+    requires earns { 0 < reward }
     ensures { Reduced cost reward result.p result.q }
 {
     let n = signs::magnitude(cost);

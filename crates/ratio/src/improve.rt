@@ -8,7 +8,7 @@ use graph::{Answer, Coefficients};
 
 // A cycle of a smaller ratio is in hand now, by the number of its arcs; or a cycle without reward makes money; or there is neither, and the
 // ratio is p / q.
-#[derive(Drop)]
+#[derive(Clone, Copy)]
 enum Turn {
     Better(usize),
     Gains,
@@ -16,7 +16,7 @@ enum Turn {
 }
 
 // A cycle without reward makes money; or the least ratio p / q, and the number of arcs of the cycle in hand, which has it.
-#[derive(Drop)]
+#[derive(Clone, Copy)]
 enum Settled {
     Gains,
     Least(i64, u64, usize),
@@ -34,8 +34,8 @@ fn search_below(
     k: usize,
 ) -> Turn
     requires ratio_arguments { RatioArguments from.now to.now cost.now reward.now nodes (length potential.old) (length hand.old) }
-    requires in_hand_1 { InHand from.now to.now nodes hand.old k }
-    requires in_hand_2 { Earns reward.now hand.old k }
+    requires in_hand { InHand from.now to.now nodes hand.old k }
+    requires earns { Earns reward.now hand.old k }
     ensures { Turned from.now to.now cost.now reward.now nodes k
         potential.old potential.new hand.old hand.new result }
 {
@@ -74,8 +74,8 @@ fn settle(
     k: usize,
 ) -> Settled
     requires ratio_arguments { RatioArguments from.now to.now cost.now reward.now nodes (length potential.old) (length hand.old) }
-    requires in_hand_1 { InHand from.now to.now nodes hand.old k }
-    requires in_hand_2 { Earns reward.now hand.old k }
+    requires in_hand { InHand from.now to.now nodes hand.old k }
+    requires earns { Earns reward.now hand.old k }
     ensures { SettledBy from.now to.now cost.now reward.now nodes
         potential.old potential.new hand.new result }
 {
@@ -109,8 +109,8 @@ pub(crate) fn least_from(
     k: usize,
 ) -> RatioAnswer
     requires ratio_arguments { RatioArguments from.now to.now cost.now reward.now nodes (length potential.old) (length cycle.old) }
-    requires in_hand_1 { InHand from.now to.now nodes hand.old k }
-    requires in_hand_2 { Earns reward.now hand.old k }
+    requires in_hand { InHand from.now to.now nodes hand.old k }
+    requires earns { Earns reward.now hand.old k }
     ensures { RatioAnswered from.now to.now cost.now reward.now nodes
         potential.old potential.new cycle.old cycle.new result }
 {

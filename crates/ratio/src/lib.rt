@@ -10,7 +10,7 @@ mod improve;
 
 // Malformed arguments; no cycle earns (question 13); a cycle without reward makes money (question 14); or the least ratio p / q, in lowest
 // terms, of a cycle that earns, and the number of arcs of one that has it.
-#[derive(Drop)]
+#[derive(Clone, Copy)]
 pub enum RatioAnswer {
     Malformed,
     NoneEarns,

@@ -27,8 +27,8 @@ fn same_bytes(s: &[u8], x: usize, y: usize, count: usize) -> bool
 // Whether two edge records are the same bytes. Where their keys differ they are not. Where they are equal the bytes decide, so that nothing has
 // to be proved of keys but that the same bytes give the same ones. The map, which gives the length, is among the bytes of either.
 fn same_record(s: &[u8], x: Key, y: Key) -> bool
-    requires fact_1 { (x ≡ key_of s.now x.at) × (y ≡ key_of s.now y.at) }
-    requires fact_2 { (x.at < 2048) × (y.at < 2048) }
+    requires keys { (x ≡ key_of s.now x.at) × (y ≡ key_of s.now y.at) }
+    requires places { (x.at < 2048) × (y.at < 2048) }
     ensures { result ≡ same_record s.now x.at y.at }
 {
     if x.front != y.front {
@@ -42,8 +42,8 @@ fn same_record(s: &[u8], x: Key, y: Key) -> bool
 
 // Question 17 of the edge records from a place on: each is compared with those before it.
 pub(crate) fn distinct_refusal(s: &[u8], from: usize, edges: usize) -> u8
-    requires fact_1 { (from < 1024) × (edges ≤ 32) }
-    requires fact_2 { record_at EdgeRecord s.now from edges ≤ length s.now }
+    requires in_sheet { (from < 1024) × (edges ≤ 32) }
+    requires room { record_at EdgeRecord s.now from edges ≤ length s.now }
     ensures { result ≡ distinct_refusal edges s.now from }
 {
     let mut keys = [crate::keys::blank_key(); 32];

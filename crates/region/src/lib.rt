@@ -14,13 +14,13 @@ mod ranks;
 mod second_edges;
 
 // Each clock's whole part and class; clocks that the sheet does not have are at 0.
-#[derive(Drop)]
+#[derive(Clone, Copy)]
 pub struct Region {
     pub whole: [u8; 4],
     pub class: [u8; 4],
 }
 
-#[derive(Drop)]
+#[derive(Clone, Copy)]
 pub struct Node {
     pub location: u8,
     pub region: Region,
@@ -28,7 +28,7 @@ pub struct Node {
 }
 
 // The answer of a step: 0, or the number of the question answered no, and then nothing else. The units are those that elapse.
-#[derive(Drop)]
+#[derive(Clone, Copy)]
 pub struct Stepped {
     pub refusal: u8,
     pub number: u64,

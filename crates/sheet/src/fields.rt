@@ -1,14 +1,14 @@
 // What the bits of a record's map stand for.
 
 // The two kinds of record.
-#[derive(Drop)]
+#[derive(Clone, Copy)]
 pub enum Kind {
     LocationRecord,
     EdgeRecord,
 }
 
 // A field; a bound or a guard is of the clock it names.
-#[derive(Drop)]
+#[derive(Clone, Copy)]
 pub enum Field {
     Cost,
     Reward,

@@ -3,7 +3,7 @@ pub mod fields;
 pub mod keys;
 
 // What a location record holds; absent prices are 0, and so are the bounds of clocks that the sheet does not have.
-#[derive(Drop)]
+#[derive(Clone, Copy)]
 pub struct Location {
     pub cost: i16,
     pub reward: u16,
@@ -12,7 +12,7 @@ pub struct Location {
 
 // What an edge record holds; an absent upper guard is 255, which no byte of a sheet reaches. The guards stand first, so that each of the two lists
 // lies within eight bytes, as records are copied.
-#[derive(Drop)]
+#[derive(Clone, Copy)]
 pub struct Edge {
     pub lower: [u8; 4],
     pub upper: [u8; 4],
@@ -24,7 +24,7 @@ pub struct Edge {
 }
 
 // A decoded sheet: the refusal, and where that is 0 the edition, the counts and the records, blank ones after them.
-#[derive(Drop)]
+#[derive(Clone, Copy)]
 pub struct Sheet {
     pub refusal: u8,
     pub edition: u8,

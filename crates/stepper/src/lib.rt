@@ -15,8 +15,8 @@ pub fn edge_records(edges: [Edge; 32]) -> [Edge; 32]
 
 // The locations' records at every number that a byte can be, blank ones past the last.
 pub fn location_records(locations: [Location; 12]) -> [Location; 256]
-    ensures fact_1 { length result ≡ 256 }
-    ensures fact_2 { ((l : ℕ) → l < 256 → get_or result l blank_location ≡ get_or locations l blank_location) }
+    ensures room { length result ≡ 256 }
+    ensures copied { ((l : ℕ) → l < 256 → get_or result l blank_location ≡ get_or locations l blank_location) }
 {
     let blank = Location {
         cost: 0,
@@ -51,8 +51,8 @@ pub fn elsewhere(number: u64, edition: u8, code: usize, source: u8) -> bool
 
 // The location whose record the step needs: the one that an edge leads to, or that a delay stays in.
 pub fn location_needed(number: u64, edition: u8, code: usize, target: u8) -> usize
-    ensures fact_1 { result ≡ location_needed number edition code target }
-    ensures fact_2 { result < 256 }
+    ensures value { result ≡ location_needed number edition code target }
+    ensures small { result < 256 }
 {
     if code < 32 {
         return as_index(target);

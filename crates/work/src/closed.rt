@@ -25,8 +25,8 @@ fn all_of_parity(bytes: [u8; 4], clocks: usize, parity: u8) -> bool
 
 // Whether the bounds of the first locations are all odd.
 fn bounds_closed(locations: [Location; 12], count: usize, clocks: usize) -> bool
-    requires fact_1 { count ≤ 12 }
-    requires fact_2 { clocks ≤ 4 }
+    requires few_records { count ≤ 12 }
+    requires few_clocks { clocks ≤ 4 }
     ensures { result ≡ bounds_odd locations count clocks }
 {
     let all: bool = 'records: loop {
@@ -44,8 +44,8 @@ fn bounds_closed(locations: [Location; 12], count: usize, clocks: usize) -> bool
 
 // Whether the lower guards of the first edges are all even and the upper ones odd. An absent lower one is 0, an absent upper one 255.
 fn guards_closed(edges: [Edge; 32], count: usize, clocks: usize) -> bool
-    requires fact_1 { count ≤ 32 }
-    requires fact_2 { clocks ≤ 4 }
+    requires few_records { count ≤ 32 }
+    requires few_clocks { clocks ≤ 4 }
     ensures { result ≡ guards_even_odd edges count clocks }
 {
     let all: bool = 'records: loop {

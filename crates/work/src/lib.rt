@@ -12,7 +12,7 @@ mod pairs;
 mod turn;
 
 // The refusal, and how many pairs the stem and the cycle have.
-#[derive(Drop)]
+#[derive(Clone, Copy)]
 pub struct Lengths {
     pub refusal: u8,
     pub stem: u16,
@@ -32,9 +32,9 @@ fn refused(refusal: u8) -> Lengths
 
 // Questions 12 to 14, then 18, and the pairs. The sheet passes the check, and the buffers are cleared.
 fn plan_pairs(sheet: &[u8], read: Sheet, waits: &mut [u16], edges: &mut [u16]) -> Lengths
-    requires fact_1 { check_of sheet.now ≡ 0 }
-    requires fact_2 { read ≡ read_of sheet.now }
-    requires fact_3 { RoomForPairs (lent_pairs waits.old edges.old) }
+    requires passed { check_of sheet.now ≡ 0 }
+    requires read_so { read ≡ read_of sheet.now }
+    requires long_enough { RoomForPairs (lent_pairs waits.old edges.old) }
     ensures { (o : ClearedFrom (lent_pairs waits.old edges.old))
         → Worked sheet.now o.before (lent_pairs waits.new edges.new) result }
 {

@@ -5,7 +5,7 @@ ghost use Rattle.work.specs.Work.{lent_pairs};
 ghost use Rattle.work.specs.PrivatePromises.{RoomFrom, PairsWritten};
 
 // How many pairs are written, and the units of the next one's wait so far.
-#[derive(Drop)]
+#[derive(Clone, Copy)]
 pub struct Progress {
     pub count: usize,
     pub wait: u16,
@@ -22,9 +22,9 @@ pub(crate) fn write_pairs(
     waits: &mut [u16],
     edges: &mut [u16],
 ) -> Progress
-    requires fact_1 { from ≤ to }
-    requires fact_2 { to ≤ length codes.now }
-    requires fact_3 { RoomFrom (lent_pairs waits.old edges.old) count wait (slice from to codes.now) }
+    requires order { from ≤ to }
+    requires in_codes { to ≤ length codes.now }
+    requires room { RoomFrom (lent_pairs waits.old edges.old) count wait (slice from to codes.now) }
     ensures { PairsWritten (lent_pairs waits.old edges.old) (lent_pairs waits.new edges.new) count wait
         (slice from to codes.now) result }
 {

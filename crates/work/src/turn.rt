@@ -9,12 +9,12 @@ use crate::Lengths;
 
 // The place just after the first edge of the codes from a place up to another, or where these end.
 fn past_edge(codes: &[u16], from: usize, to: usize) -> usize
-    requires fact_1 { from ≤ to }
-    requires fact_2 { to ≤ length codes.now }
-    ensures fact_1 { from ≤ result }
-    ensures fact_2 { result ≤ to }
-    ensures fact_3 { slice from result codes.now ≡ until_edge (slice from to codes.now) }
-    ensures fact_4 { slice result to codes.now ≡ past_edge (slice from to codes.now) }
+    requires order { from ≤ to }
+    requires in_codes { to ≤ length codes.now }
+    ensures from_on { from ≤ result }
+    ensures within { result ≤ to }
+    ensures until { slice from result codes.now ≡ until_edge (slice from to codes.now) }
+    ensures past { slice result to codes.now ≡ past_edge (slice from to codes.now) }
 {
     let mut i = from;
     while i < to {
@@ -41,9 +41,9 @@ pub(crate) fn write_lasso(
     waits: &mut [u16],
     edges: &mut [u16],
 ) -> Lengths
-    requires fact_1 { s + m ≤ 2048 }
-    requires fact_2 { s + m ≤ length codes.now }
-    requires fact_3 { RoomForPairs (lent_pairs waits.old edges.old) }
+    requires few { s + m ≤ 2048 }
+    requires in_codes { s + m ≤ length codes.now }
+    requires long_enough { RoomForPairs (lent_pairs waits.old edges.old) }
     ensures { LassoWritten (lent_pairs waits.old edges.old) (lent_pairs waits.new edges.new)
         (take s codes.now) (slice s (s + m) codes.now) result }
 {
