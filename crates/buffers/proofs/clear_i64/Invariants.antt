@@ -1,0 +1,15 @@
+-- What is left to clear makes the list that is promised.
+use mathlib.Core.Path.{◌≡◌, refl, sym, ◌∙◌}
+use Prim.Native.Nat.{◌-◌}
+use native.Mathlib.Omega.{arith}
+use lib.IntN.{pos}
+use lib.ListN.{length, length-set}
+use Rattle.buffers.specs.Cleared.{cleared}
+use Rattle.buffers.proofs.ClearedLaws.{clear_more, clear_none}
+use Rattle.buffers.proofs.clear_i64.Given as goal
+
+abbrev pub invariant-loop-i : goal.invariant-loop-i
+invariant-loop-i l = (length l.list ≡ length l.initial.list) × (cleared (pos 0) l.list l.i ≡ cleared (pos 0) l.initial.list l.from)
+
+abbrev pub decreases-loop-i : goal.decreases-loop-i
+decreases-loop-i l = length l.initial.list - l.i

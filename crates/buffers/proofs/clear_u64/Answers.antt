@@ -1,0 +1,17 @@
+-- What is left to clear makes the list that is promised.
+use mathlib.Core.Path.{◌≡◌, refl, sym, ◌∙◌}
+use Prim.Native.Nat.{◌-◌}
+use native.Mathlib.Omega.{arith}
+use lib.ListN.{length, length-set}
+use Rattle.buffers.specs.Cleared.{cleared}
+use Rattle.buffers.proofs.ClearedLaws.{clear_more, clear_none}
+use Rattle.std.proofs.Common.{rules}
+use Rattle.buffers.proofs.clear_u64.Goals as goal
+
+pub loop-i-preserved : goal.loop-i-preserved
+loop-i-preserved c =
+    (simp length-set c.loop-i.invariant.0, clear_more 0 c.loop-i.list c.loop-i.i (omega arith) ∙ c.loop-i.invariant.1)
+
+pub returns : goal.returns
+returns c =
+    sym (clear_none 0 c.loop-i.list c.loop-i.i (omega arith)) ∙ c.loop-i.invariant.1

@@ -1,0 +1,14 @@
+-- The least source so far, and where it stands.
+use mathlib.Core.Path.{◌≡◌, sym, ap, ◌∙◌}
+use mathlib.Core.Logic.{⊎_elim}
+use Prim.Native.Nat.{ℕ, ◌-◌, ◌≤◌, ◌<◌}
+use native.Mathlib.Omega.{arith}
+use Rattle.walks.specs.Walk.{at}
+use Rattle.lasso.proofs.Passing.{least_more}
+use Rattle.lasso.proofs.lay.first.Given as goal
+
+abbrev pub invariant-loop-i : goal.invariant-loop-i
+invariant-loop-i l = (l.t < l.i) × ((l.i ≤ l.k) × ((l.best ≡ at l.from (at l.cycle l.t)) × (((j : ℕ) → j < l.i → l.best ≤ at l.from (at l.cycle j)) × ((j : ℕ) → j < l.t → l.best < at l.from (at l.cycle j)))))
+
+abbrev pub decreases-loop-i : goal.decreases-loop-i
+decreases-loop-i l = l.k - l.i
