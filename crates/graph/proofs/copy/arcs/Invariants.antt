@@ -1,0 +1,16 @@
+-- `graph::copy::arcs` meets its contract: after i turns the first i entries are copied.
+use mathlib.Core.Path.{◌≡◌, refl, ap, ◌∙◌}
+use mathlib.Core.List.{List, ◌++◌}
+use Prim.Native.Nat.{ℕ, ◌+◌, ◌-◌, ◌≤◌, ◌<◌}
+use native.Mathlib.Omega.{arith}
+use lib.ListN.{length, set, take, drop, length-set}
+use lib.Seq.{slice, length-slice, take_all}
+use Rattle.walks.specs.Walk.{at}
+use Rattle.walks.proofs.Copies.{copy_more, slice_at}
+use Rattle.graph.proofs.copy.arcs.Given as goal
+
+abbrev pub invariant-loop-i : goal.invariant-loop-i
+invariant-loop-i l = (l.i ≤ l.n) × (length l.d ≡ length l.initial.d) × (l.d ≡ take l.i (slice l.start (l.start + l.n) l.s) ++ drop l.i l.initial.d)
+
+abbrev pub decreases-loop-i : goal.decreases-loop-i
+decreases-loop-i l = l.n - l.i
