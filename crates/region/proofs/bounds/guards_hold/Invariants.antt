@@ -1,0 +1,23 @@
+-- The guards of the clocks passed hold.
+use borrow.Author.Tests.{not-true, not-false}
+use lib.ListN.{get_or, take}
+use mathlib.Core.Path.{◌≡◌, sym}
+use mathlib.Core.Bool.{Bool, true}
+use mathlib.Core.List.{List, zip_with}
+use Prim.Native.Nat.{ℕ, ◌-◌, ◌≤◌}
+use native.Mathlib.Omega.{arith}
+use Rattle.automaton.specs.Tests.{every}
+use Rattle.automaton.specs.Bounds.{interval}
+use Rattle.region.specs.Arrays.{guard_holds, guards_in}
+use Rattle.region.proofs.ClockLaws.{every_none, every_all, clock_more, clock_fails}
+use Rattle.region.proofs.bounds.guards_hold.Given as goal
+
+-- what is asked of a clock, by its number and its interval
+abbrev pub asks : List ℕ → List ℕ → ℕ → ℕ → Bool
+asks lower upper i x = guard_holds (get_or lower i 0) (get_or upper i 0) x
+
+abbrev pub invariant-loop-j : goal.invariant-loop-j
+invariant-loop-j l = (l.j ≤ l.clocks) × (every (asks l.lower l.upper) (take l.j (zip_with interval l.region.whole l.region.class)) ≡ true)
+
+abbrev pub decreases-loop-j : goal.decreases-loop-j
+decreases-loop-j l = l.clocks - l.j

@@ -1,0 +1,11 @@
+-- A part above the bits that are there is a sum.
+use native.Mathlib.Omega.{arith}
+use lib.Pow.{pow_pos}
+use Rattle.sheet.proofs.MapLaws.{one_shl}
+use Rattle.region.proofs.BitLaws.{part_above}
+use Rattle.std.proofs.Common.{rules}
+use Rattle.region.proofs.numbers.with_part.Goals as goal
+
+pub returns : goal.returns
+returns c =
+    part_above c.args.x c.args.v c.args.width c.args.at c.requires.0 c.requires.1.0 c.requires.1.1
