@@ -1,0 +1,14 @@
+-- The place of each record in turn.
+use mathlib.Core.Path.{◌≡◌, refl, ap, ◌∙◌}
+use Prim.Native.Nat.{◌-◌, ◌≤◌}
+use native.Mathlib.Omega.{arith}
+use Rattle.sheet.specs.Records.{record_at}
+use Rattle.sheet.proofs.RecordLaws.{at_le, at_more, length-le}
+use Rattle.sheet.specs.declared.fields.Kind.TheVariants.{LocationRecord}
+use Rattle.reader.proofs.decode.locations_end.Given as goal
+
+abbrev pub invariant-loop-i : goal.invariant-loop-i
+invariant-loop-i l = (l.i ≤ l.count) × ((l.at ≡ record_at LocationRecord l.s 4 l.i))
+
+abbrev pub decreases-loop-i : goal.decreases-loop-i
+decreases-loop-i l = l.count - l.i

@@ -1,0 +1,16 @@
+-- Record by record.
+use mathlib.Core.Path.{◌≡◌, refl, ap, ◌∙◌}
+use Prim.Native.Nat.{ℕ, ◌-◌, ◌≤◌}
+use native.Mathlib.Omega.{arith}
+use Rattle.sheet.specs.Records.{record_at}
+use Rattle.sheet.proofs.RecordLaws.{at_le, at_more, length-le}
+use Rattle.sheet.proofs.DecodeLaws.{filled_more}
+use Rattle.sheet.specs.Decoded.{filled, location_of, blank_location, locations_of}
+use Rattle.sheet.specs.declared.fields.Kind.TheVariants.{LocationRecord}
+use Rattle.reader.proofs.decode.read_locations.Given as goal
+
+abbrev pub invariant-loop-i : goal.invariant-loop-i
+invariant-loop-i l = (l.i ≤ l.count) × ((l.at ≡ record_at LocationRecord l.s 4 l.i) × (l.all ≡ locations_of l.s l.i))
+
+abbrev pub decreases-loop-i : goal.decreases-loop-i
+decreases-loop-i l = l.count - l.i

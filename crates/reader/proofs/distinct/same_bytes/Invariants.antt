@@ -1,0 +1,21 @@
+-- The bytes passed are the same.
+use mathlib.Core.Path.{◌≡◌, sym, ◌∙◌}
+use mathlib.Core.Bool.{true}
+use Prim.Native.Nat.{◌-◌, ◌≤◌}
+use borrow.Author.Tests.{eq-eqb, ne_eqb}
+use Rattle.sheet.specs.Questions.{each}
+use Rattle.sheet.proofs.QuestionLaws.{each_none, each_more, each_fails, each_all}
+use Rattle.sheet.proofs.PairLaws.{same_at}
+use Rattle.reader.proofs.distinct.same_bytes.Given as goal
+
+abbrev pub invariant-loop-i : goal.invariant-loop-i
+invariant-loop-i l = (l.i ≤ l.count) × (each l.i (same_at l.s l.x l.y) ≡ true)
+
+abbrev pub decreases-loop-i : goal.decreases-loop-i
+decreases-loop-i l = l.count - l.i
+
+abbrev pub invariant-bytes : goal.invariant-bytes
+invariant-bytes l = Unit
+
+abbrev pub decreases-bytes : goal.decreases-bytes
+decreases-bytes l = 0
