@@ -6,6 +6,7 @@ pub mod LengthLaws
 pub mod ArcLaws
 pub mod TurnLaws
 pub mod EnterLaws
+pub mod TakenLaws
 pub mod AnswerLaws
 pub mod OneSearch
 pub mod OneGraph

@@ -1,0 +1,9 @@
+-- From i on, all has moved up.
+use Rattle.explore.proofs.ShiftLaws.{Shifted, shift_start, shift_one, shift_end}
+use Rattle.explore.proofs.index.insert_number.Given as goal
+
+abbrev pub invariant-loop-i : goal.invariant-loop-i
+invariant-loop-i l = Shifted l.initial.list l.list l.n l.p l.i
+
+abbrev pub decreases-loop-i : goal.decreases-loop-i
+decreases-loop-i l = l.i
