@@ -1,0 +1,18 @@
+-- The three buffers are cleared whole.
+use mathlib.Core.Path.{◌∙◌}
+use lib.IntN.{pos}
+use Rattle.buffers.proofs.ClearedLaws.{cleared_whole}
+use Rattle.std.proofs.Common.{rules}
+use Rattle.planner.proofs.output.refuse.Goals as goal
+
+pub returns-clause-nodes_cleared : goal.returns-clause-nodes_cleared
+returns-clause-nodes_cleared c =
+    c.clear_u64.ensures ∙ cleared_whole 0 c.args.nodes.now
+
+pub returns-clause-potentials_cleared : goal.returns-clause-potentials_cleared
+returns-clause-potentials_cleared c =
+    c.clear_i64.ensures ∙ cleared_whole (pos 0) c.args.potentials.now
+
+pub returns-clause-steps_cleared : goal.returns-clause-steps_cleared
+returns-clause-steps_cleared c =
+    c.clear_u16.ensures ∙ cleared_whole 0 c.args.steps.now
