@@ -1,1 +1,3 @@
+#![tactic(auto)]
+
 // No code: the theory of double-priced timed automata.

@@ -1,4 +1,6 @@
 // Lent buffers: zeros from a place on, for each type of entry.
+#![tactic(auto)]
+
 ghost use Rattle.std.specs.Prelude.{◌≡◌, pos};
 ghost use Rattle.buffers.specs.Cleared.{cleared};
 

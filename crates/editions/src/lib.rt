@@ -1,4 +1,6 @@
 // Editions of sheets, as the code needs them.
+#![tactic(auto)]
+
 ghost use Rattle.std.specs.Prelude.{◌≡◌};
 ghost use Rattle.sheet.specs.Fields.{edition_at};
 

@@ -1,4 +1,6 @@
 // The nodes that are reachable on a decoded sheet, in order of discovery, and all steps between them as the arcs of a graph.
+#![tactic(auto)]
+
 ghost use Rattle.std.specs.Prelude.{◌≡◌, true, false, ◌&&◌, leb};
 ghost use Rattle.explore.specs.Buffers.{graph_buffers, each_at_least};
 ghost use Rattle.explore.specs.Explorable.{CountsInRange};

@@ -1,5 +1,7 @@
 // A simple cycle of negative weight that a walk from node 0 reaches, or the potentials: the least weights of walks from node 0.
 // The arc e leads from from[e] to to[e], and weighs a * cost[e] + b * reward[e] + c.
+#![tactic(auto)]
+
 ghost use Rattle.graph.specs.Answer.{SearchAnswered};
 
 mod climb;

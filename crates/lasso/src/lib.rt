@@ -1,5 +1,7 @@
 // The lasso: a stem along the search tree to the first discovered of a cycle's nodes, and the cycle, turned to begin there.
 // The arc e leads from from[e] to to[e]; nodes are numbered as they were discovered.
+#![tactic(auto)]
+
 ghost use Rattle.lasso.specs.Answer.{LassoAnswered};
 
 mod form;

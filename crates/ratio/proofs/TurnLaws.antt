@@ -18,9 +18,7 @@ use Rattle.graph.specs.declared.Answer.TheVariants.{Malformed, Cycle, Potentials
 use Rattle.ratio.specs.Answer.{RatioArguments, RatioOf}
 use Rattle.ratio.specs.Turns.{Reduced, InHand, Earns, Cheaper, LeastInHand, Improved, GainFound, Turned, SettledBy}
 use Rattle.ratio.specs.declared.improve.Turn.{Turn}
-use Rattle.ratio.specs.declared.improve.Turn.TheVariants as Turn
 use Rattle.ratio.specs.declared.improve.Settled.{Settled}
-use Rattle.ratio.specs.declared.improve.Settled.TheVariants as Settled
 use Rattle.ratio.proofs.Heights.{height, height_falls, cheaper}
 use Rattle.ratio.proofs.Bounds.{hand_cost, hand_reward}
 use Rattle.ratio.proofs.Searches.{simple_of, weight_by, idle_gain}

@@ -7,7 +7,6 @@ use Rattle.walks.specs.Weight.{weight_of, sum, total, NoneNegative, PotentialOrM
 use Rattle.walks.specs.Cycles.{SimpleCycle, EarningArcs, NoneEarns, NoIdleGain, IdleGainArcs}
 use Rattle.walks.specs.Form.{Graph}
 use Rattle.ratio.specs.declared.RatioAnswer.{RatioAnswer}
-use Rattle.ratio.specs.declared.RatioAnswer.TheVariants as RatioAnswer
 
 -- the arguments: a graph of n nodes, and n entries or more in each buffer
 pub record RatioArguments (F T : List ℕ) (cost : List ℤ) (reward : List ℕ) (n potentials arcs : ℕ) : Type 0 where

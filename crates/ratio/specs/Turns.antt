@@ -7,9 +7,7 @@ use Rattle.walks.specs.Weight.{weight_of, sum, total, NoneNegative, PotentialOrM
 use Rattle.walks.specs.Cycles.{SimpleCycle, EarningArcs, IdleGainArcs}
 use Rattle.ratio.specs.Answer.{RatioOf}
 use Rattle.ratio.specs.declared.improve.Turn.{Turn}
-use Rattle.ratio.specs.declared.improve.Turn.TheVariants as Turn
 use Rattle.ratio.specs.declared.improve.Settled.{Settled}
-use Rattle.ratio.specs.declared.improve.Settled.TheVariants as Settled
 
 -- p / q is cost / reward in lowest terms
 pub record Reduced (cost : ℤ) (reward : ℕ) (p : ℤ) (q : ℕ) : Type 0 where

@@ -1,5 +1,7 @@
 // Questions 13 and 14, and the least ratio of cost over reward of the cycles that earn and that a walk from node 0 reaches.
 // The arc e leads from from[e] to to[e], costs cost[e] and earns reward[e].
+#![tactic(auto)]
+
 ghost use Rattle.ratio.specs.Answer.{RatioAnswered};
 
 use graph::Coefficients;

@@ -1,4 +1,6 @@
 // The reader of sheets: whether a byte string is a sheet, and what it holds.
+#![tactic(auto)]
+
 ghost use Rattle.std.specs.Prelude.{◌≡◌};
 ghost use Rattle.sheet.specs.Questions.{check_of};
 ghost use Rattle.sheet.specs.Decoded.{read_of};

@@ -1,4 +1,6 @@
 // Nodes by value, and their steps by the records that a step needs.
+#![tactic(auto)]
+
 ghost use Rattle.std.specs.Prelude.{◌≡◌, ◌≤◌};
 ghost use Rattle.nodes.specs.Numbers.{layout_at, bits_of};
 ghost use Rattle.nodes.specs.Decoded.{few_clocks};

@@ -1,4 +1,6 @@
 // The place of a number in a rising list, by halving.
+#![tactic(auto)]
+
 ghost use Rattle.std.specs.Prelude.{◌≡◌, min};
 ghost use Rattle.rising.specs.Place.{if_below, place_in};
 

@@ -7,7 +7,7 @@ use native.Mathlib.Nat.{one-mul, zero-mul}
 use native.Mathlib.Omega.{arith}
 use borrow.Author.Tests.{ltb-true}
 use lib.Dec.{ltb, eqb}
-use lib.IntN.{ℤ, pos, ◌*ℤ◌, zero-*ℤ}
+use lib.IntN.{pos, ◌*ℤ◌, zero-*ℤ}
 use Rattle.integers.proofs.Products.{one_times}
 use Rattle.automaton.specs.Bounds.{upper_holds, lower_holds}
 use Rattle.automaton.specs.Automaton.{Automaton, in_guards}

@@ -1,4 +1,6 @@
 // The sheet format: what the bytes of a sheet are and mean, and the decoded sheet. No code.
+#![tactic(auto)]
+
 pub mod fields;
 pub mod keys;
 

@@ -1,4 +1,6 @@
 // The magnitude of a signed number.
+#![tactic(auto)]
+
 ghost use Rattle.std.specs.Prelude.{◌≡◌, nat_abs};
 
 // Below 0 by way of -1 - z, which fits where -z does not.

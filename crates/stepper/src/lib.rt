@@ -1,4 +1,6 @@
 // One step of a sheet by the records that it needs, so that the sheet itself is not passed on with each step.
+#![tactic(auto)]
+
 ghost use Rattle.std.specs.Prelude.{◌≡◌, ℕ, ◌<◌, length, get_or};
 ghost use Rattle.sheet.specs.Decoded.{blank_location};
 ghost use Rattle.stepper.specs.Records.{leaves_elsewhere, location_needed, step_by_records};

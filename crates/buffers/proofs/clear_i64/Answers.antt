@@ -1,12 +1,9 @@
 -- What is left to clear makes the list that is promised.
-use mathlib.Core.Path.{◌≡◌, refl, sym, ◌∙◌}
-use Prim.Native.Nat.{◌-◌}
+use mathlib.Core.Path.{sym, ◌∙◌}
 use native.Mathlib.Omega.{arith}
 use lib.IntN.{pos}
-use lib.ListN.{length, length-set}
-use Rattle.buffers.specs.Cleared.{cleared}
+use lib.ListN.{length-set}
 use Rattle.buffers.proofs.ClearedLaws.{clear_more, clear_none}
-use Rattle.std.proofs.Common.{rules}
 use Rattle.buffers.proofs.clear_i64.Goals as goal
 
 pub loop-i-preserved : goal.loop-i-preserved

@@ -1,10 +1,8 @@
 -- What is left to clear makes the list that is promised.
-use mathlib.Core.Path.{◌≡◌, refl, sym, ◌∙◌}
+use mathlib.Core.Path.{◌≡◌}
 use Prim.Native.Nat.{◌-◌}
-use native.Mathlib.Omega.{arith}
-use lib.ListN.{length, length-set}
+use lib.ListN.{length}
 use Rattle.buffers.specs.Cleared.{cleared}
-use Rattle.buffers.proofs.ClearedLaws.{clear_more, clear_none}
 use Rattle.buffers.proofs.clear_u64.Given as goal
 
 abbrev pub invariant-loop-i : goal.invariant-loop-i

@@ -4,7 +4,6 @@ use mathlib.Core.Bool.{Bool, cond}
 use borrow.Author.Tests.{eq-eqb, ne_eqb}
 use Rattle.sheet.specs.Questions.{check_of}
 use Rattle.sheet.specs.Decoded.{decoded_sheet, refused_sheet, read_of}
-use Rattle.std.proofs.Common.{rules}
 use Rattle.reader.proofs.read.Goals as goal
 
 pub returns-then-refusal-ne0 : goal.returns-then-refusal-ne0

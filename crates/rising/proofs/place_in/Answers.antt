@@ -2,10 +2,8 @@
 use mathlib.Core.Path.{◌≡◌}
 use Prim.Native.Nat.{◌+◌}
 use native.Mathlib.Omega.{arith}
-use Rattle.walks.specs.Walk.{at}
 use Rattle.rising.specs.Place.{place_in}
-use Rattle.rising.proofs.TurnLaws.{Halving, begun, halved, at_most, none_left, one_left}
-use Rattle.std.proofs.Common.{rules}
+use Rattle.rising.proofs.TurnLaws.{begun, halved, none_left, one_left}
 use Rattle.rising.proofs.place_in.Goals as goal
 
 pub loop-size-init : goal.loop-size-init
@@ -23,5 +21,5 @@ returns-then-size-eq0 c =
 pub returns : goal.returns
 returns c =
     let found : let a = c.args in c.loop-size.low + c.if_below.result ≡ place_in a.list.now a.n a.x =
-      one_left _ _ _ _ c.loop-size.size _ (omega (arith, c.if-size-eq0.false, c.loop-size-test.false)) c.if_below.ensures c.loop-size.invariant in
+    one_left _ _ _ _ c.loop-size.size _ (omega (arith, c.if-size-eq0.false, c.loop-size-test.false)) c.if_below.ensures c.loop-size.invariant in
     found

@@ -1,10 +1,5 @@
 -- What halving comes to from here is the place.
-use mathlib.Core.Path.{◌≡◌}
-use Prim.Native.Nat.{◌+◌}
-use native.Mathlib.Omega.{arith}
-use Rattle.walks.specs.Walk.{at}
-use Rattle.rising.specs.Place.{place_in}
-use Rattle.rising.proofs.TurnLaws.{Halving, begun, halved, at_most, none_left, one_left}
+use Rattle.rising.proofs.TurnLaws.{Halving}
 use Rattle.rising.proofs.place_in.Given as goal
 
 abbrev pub invariant-loop-size : goal.invariant-loop-size

@@ -2,7 +2,6 @@
 use mathlib.Core.Path.{◌∙◌}
 use native.Mathlib.Omega.{arith}
 use Rattle.stepper.proofs.RecordLaws.{no_edge, edge_answered, delay_answered, no_code}
-use Rattle.std.proofs.Common.{rules}
 use Rattle.stepper.proofs.step_at.Goals as goal
 
 pub returns-then-as_index-code : goal.returns-then-as_index-code

@@ -1,5 +1,5 @@
 -- From i on, all has moved up.
-use Rattle.explore.proofs.ShiftLaws.{Shifted, shift_start, shift_one, shift_end}
+use Rattle.explore.proofs.ShiftLaws.{Shifted}
 use Rattle.explore.proofs.index.insert_place.Given as goal
 
 abbrev pub invariant-loop-i : goal.invariant-loop-i

@@ -1,5 +1,5 @@
 -- Turn by turn; the lengths stay.
-use mathlib.Core.Path.{◌≡◌, refl, sym, ap, ◌∙◌}
+use mathlib.Core.Path.{refl, sym, ap, ◌∙◌}
 use Prim.Native.Nat.{◌/◌, ◌%◌}
 use borrow.Author.Rules.{rules}
 use lib.IntN.{ℤ}
@@ -12,11 +12,11 @@ use Rattle.nodes.proofs.LayoutLaws.{start_zero}
 use Rattle.walks.specs.Walk.{at}
 use Rattle.stepper.proofs.RecordLaws.{not_here}
 use Rattle.contract.proofs.Graphs.{code_below}
-use Rattle.explore.specs.Buffers.{graph_buffers, HasRoom}
+use Rattle.explore.specs.Buffers.{graph_buffers}
 use Rattle.explore.proofs.CountLaws.{Counts, counts}
 use Rattle.explore.proofs.SearchLaws.{begin, skip, done, filled}
 use Rattle.explore.proofs.LengthLaws.{long_kept}
-use Rattle.explore.proofs.EnterLaws.{Taken, no_arc, stopped, known_node, new_node}
+use Rattle.explore.proofs.EnterLaws.{no_arc, stopped, known_node, new_node}
 use Rattle.explore.proofs.TakenLaws.{record_is, taken}
 use Rattle.explore.proofs.AnswerLaws.{too_many_answered, graph_answered}
 use Rattle.explore.proofs.search.search.Goals as goal

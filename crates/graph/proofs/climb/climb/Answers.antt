@@ -5,8 +5,7 @@ use native.Mathlib.Omega.{arith}
 use borrow.Author.Count.{falls_down}
 use lib.ListN.{length}
 use Rattle.walks.proofs.Climbs.{Marks}
-use Rattle.walks.proofs.ClimbTurns.{Climbs, top_some, top_most, arc_of, climb_again, climb_begun, climb_rooted, climb_round}
-use Rattle.std.proofs.Common.{rules}
+use Rattle.walks.proofs.ClimbTurns.{top_some, top_most, arc_of, climb_again, climb_begun, climb_rooted, climb_round}
 use Rattle.graph.proofs.climb.climb.Goals as goal
 
 pub loop-mark-init : goal.loop-mark-init
@@ -20,17 +19,17 @@ returns-then-p-eq0 c =
 pub overflow_sub-top : goal.overflow_sub-top
 overflow_sub-top c =
     let some : 1 ≤ c.loop-mark.top =
-      top_some c.loop-mark.invariant.0 c.loop-mark-test.true in
+    top_some c.loop-mark.invariant.0 c.loop-mark-test.true in
     some
 
 pub bounds-climbed-top : goal.bounds-climbed-top
 bounds-climbed-top c =
     let here : (c.loop-mark.x < 2048) × (c.loop-mark.x < length c.args.parent.now) × (length c.loop-mark.climbed ≡ 2048) =
-      let o : Marks c.loop-mark.mark c.loop-mark.climbed 2048 c.loop-mark.x c.loop-mark.top = c.loop-mark.invariant.0 in omega (arith, c.requires.is_view.par_len) in
+    let o : Marks c.loop-mark.mark c.loop-mark.climbed 2048 c.loop-mark.x c.loop-mark.top = c.loop-mark.invariant.0 in omega (arith, c.requires.is_view.par_len) in
     let some : 1 ≤ c.loop-mark.top =
-      top_some c.loop-mark.invariant.0 c.loop-mark-test.true in
+    top_some c.loop-mark.invariant.0 c.loop-mark-test.true in
     let top : c.loop-mark.top ≤ 2048 =
-      top_most c.loop-mark.invariant.0 in
+    top_most c.loop-mark.invariant.0 in
     omega (arith, here, top, some)
 
 pub entry-x-requires : goal.entry-x-requires
@@ -40,7 +39,7 @@ entry-x-requires c =
 pub loop-mark-smaller : goal.loop-mark-smaller
 loop-mark-smaller c =
     let some : 1 ≤ c.loop-mark.top =
-      top_some c.loop-mark.invariant.0 c.loop-mark-test.true in
+    top_some c.loop-mark.invariant.0 c.loop-mark-test.true in
     falls_down _ (some)
 
 pub loop-mark-preserved : goal.loop-mark-preserved

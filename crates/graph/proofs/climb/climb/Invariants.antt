@@ -1,11 +1,6 @@
 -- `graph::climb::climb` meets its contract. The loop's invariant is `Marks` and, whatever the rest of the graph is, `Climbing`.
-use mathlib.Core.Path.{◌≡◌, refl}
-use Prim.Native.Nat.{◌≤◌, ◌<◌}
-use native.Mathlib.Omega.{arith}
-use borrow.Author.Count.{falls_down}
-use lib.ListN.{length}
 use Rattle.walks.proofs.Climbs.{Marks}
-use Rattle.walks.proofs.ClimbTurns.{Climbs, top_some, top_most, arc_of, climb_again, climb_begun, climb_rooted, climb_round}
+use Rattle.walks.proofs.ClimbTurns.{Climbs}
 use Rattle.graph.proofs.climb.climb.Given as goal
 
 abbrev pub invariant-loop-mark : goal.invariant-loop-mark

@@ -1,13 +1,12 @@
 -- `graph::copy::arcs` meets its contract: after i turns the first i entries are copied.
-use mathlib.Core.Path.{◌≡◌, refl, ap, ◌∙◌}
+use mathlib.Core.Path.{◌≡◌, ap, ◌∙◌}
 use mathlib.Core.List.{List, ◌++◌}
-use Prim.Native.Nat.{ℕ, ◌+◌, ◌-◌, ◌≤◌, ◌<◌}
+use Prim.Native.Nat.{ℕ, ◌+◌, ◌≤◌, ◌<◌}
 use native.Mathlib.Omega.{arith}
 use lib.ListN.{length, set, take, drop, length-set}
 use lib.Seq.{slice, length-slice, take_all}
 use Rattle.walks.specs.Walk.{at}
 use Rattle.walks.proofs.Copies.{copy_more, slice_at}
-use Rattle.std.proofs.Common.{rules}
 use Rattle.graph.proofs.copy.arcs.Goals as goal
 
 part_length : (s : List ℕ) (a n : ℕ) → a + n ≤ length s → length (slice a (a + n) s) ≡ n
@@ -24,8 +23,7 @@ all s d l a n i h p e =
     q ∙ ap (λ (x : List ℕ). x ++ drop n d) (take_all n (slice a (a + n) s) (omega (arith, part_length s a n h)))
 
 pub loop-i-preserved : goal.loop-i-preserved
-loop-i-preserved c =
-    (
+loop-i-preserved c = (
   omega arith,
   simp length-set c.loop-i.invariant.1,
   more _ _ _ c.args.start c.args.n c.loop-i.i c.requires.source_room (omega arith) (omega arith) c.loop-i.invariant.2,

@@ -1,12 +1,9 @@
 -- `graph::copy::arcs` meets its contract: after i turns the first i entries are copied.
-use mathlib.Core.Path.{◌≡◌, refl, ap, ◌∙◌}
-use mathlib.Core.List.{List, ◌++◌}
-use Prim.Native.Nat.{ℕ, ◌+◌, ◌-◌, ◌≤◌, ◌<◌}
-use native.Mathlib.Omega.{arith}
-use lib.ListN.{length, set, take, drop, length-set}
-use lib.Seq.{slice, length-slice, take_all}
-use Rattle.walks.specs.Walk.{at}
-use Rattle.walks.proofs.Copies.{copy_more, slice_at}
+use mathlib.Core.Path.{◌≡◌}
+use mathlib.Core.List.{◌++◌}
+use Prim.Native.Nat.{◌+◌, ◌-◌, ◌≤◌}
+use lib.ListN.{length, take, drop}
+use lib.Seq.{slice}
 use Rattle.graph.proofs.copy.arcs.Given as goal
 
 abbrev pub invariant-loop-i : goal.invariant-loop-i

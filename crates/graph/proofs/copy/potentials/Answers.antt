@@ -1,7 +1,7 @@
 -- `graph::copy::potentials` meets its contract: after i turns the first i entries are copied.
-use mathlib.Core.Path.{◌≡◌, refl}
+use mathlib.Core.Path.{◌≡◌}
 use mathlib.Core.List.{List, ◌++◌}
-use Prim.Native.Nat.{ℕ, ◌+◌, ◌-◌, ◌≤◌, ◌<◌}
+use Prim.Native.Nat.{ℕ, ◌+◌, ◌<◌}
 use native.Mathlib.Omega.{arith}
 use lib.IntN.{ℤ, pos}
 use lib.ListN.{length, set, take, drop, length-set}
@@ -11,7 +11,6 @@ use mir.Facts.{to_z-of_z}
 use Rattle.walks.specs.Walk.{atℤ}
 use Rattle.walks.proofs.Tests.{again, fits}
 use Rattle.walks.proofs.Copies.{copy_more}
-use Rattle.std.proofs.Common.{rules}
 use Rattle.graph.proofs.copy.potentials.Goals as goal
 
 more : (s d l : List ℤ) (i : ℕ) → SFits w64 (atℤ s i) → i < length d → i < length s → l ≡ take i s ++ drop i d
@@ -22,8 +21,7 @@ all : (s d l : List ℤ) (i n : ℕ) → i ≡ n → l ≡ take i s ++ drop i d 
 all s d l i n p e = rw p at e
 
 pub loop-i-preserved : goal.loop-i-preserved
-loop-i-preserved c =
-    (
+loop-i-preserved c = (
   omega arith,
   simp length-set c.loop-i.invariant.1,
   more c.args.s.now _ _ c.loop-i.i

@@ -1,16 +1,8 @@
 -- `graph::copy::potentials` meets its contract: after i turns the first i entries are copied.
-use mathlib.Core.Path.{◌≡◌, refl}
-use mathlib.Core.List.{List, ◌++◌}
-use Prim.Native.Nat.{ℕ, ◌+◌, ◌-◌, ◌≤◌, ◌<◌}
-use native.Mathlib.Omega.{arith}
-use lib.IntN.{ℤ, pos}
-use lib.ListN.{length, set, take, drop, length-set}
-use mir.Syntax.{w64}
-use mir.Val.{SFits}
-use mir.Facts.{to_z-of_z}
-use Rattle.walks.specs.Walk.{atℤ}
-use Rattle.walks.proofs.Tests.{again, fits}
-use Rattle.walks.proofs.Copies.{copy_more}
+use mathlib.Core.Path.{◌≡◌}
+use mathlib.Core.List.{◌++◌}
+use Prim.Native.Nat.{◌-◌, ◌≤◌}
+use lib.ListN.{length, take, drop}
 use Rattle.graph.proofs.copy.potentials.Given as goal
 
 abbrev pub invariant-loop-i : goal.invariant-loop-i

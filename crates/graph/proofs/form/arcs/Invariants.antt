@@ -1,11 +1,7 @@
 -- `graph::form::arcs` meets its contract. The loop's invariant: the arcs passed are in order.
 use Prim.Native.Nat.{ℕ, ◌-◌, ◌≤◌, ◌<◌}
-use native.Mathlib.Omega.{arith}
-use borrow.Author.Count.{below_more}
-use borrow.Author.Tests.{not-true, not-false}
 use lib.ListN.{length}
 use Rattle.walks.specs.Form.{Arc}
-use Rattle.walks.proofs.Tests.{fails, holds}
 use Rattle.graph.proofs.form.arcs.Given as goal
 
 abbrev pub invariant-loop-e : goal.invariant-loop-e

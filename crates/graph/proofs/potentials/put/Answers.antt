@@ -1,6 +1,5 @@
 -- `graph::potentials::put` meets its contract.
 use Rattle.walks.proofs.Signed.{stored}
-use Rattle.std.proofs.Common.{rules}
 use Rattle.graph.proofs.potentials.put.Goals as goal
 
 pub returns : goal.returns

@@ -9,7 +9,6 @@ use Rattle.walks.specs.Walk.{at, atℤ}
 use Rattle.walks.specs.SearchNumbers.{raised, raised_all, start, bias, Sum}
 use Rattle.walks.proofs.Tests.{again, fits}
 use Rattle.walks.proofs.Signed.{elem}
-use Rattle.std.proofs.Common.{rules}
 use Rattle.graph.proofs.potentials.sum_at.Goals as goal
 
 same : (w : ℤ) (n : ℕ) → SFits w64 w → nat_abs w ≤ n → nat_abs (again w) ≤ n
@@ -27,5 +26,5 @@ add-requires-clause-high c = rw (elem start c.args.potential.now c.args.u c.requ
 pub returns : goal.returns
 returns c =
     let X : raised start (again (atℤ c.args.potential.now c.args.u)) ≡ at (raised_all start c.args.potential.now) c.args.u =
-      elem start c.args.potential.now c.args.u c.requires.in_list c.x-1.given in
+    elem start c.args.potential.now c.args.u c.requires.in_list c.x-1.given in
     both _ _ _ _ (fits c.add.result c.add.type_inv) c.ranges.w X c.add.ensures

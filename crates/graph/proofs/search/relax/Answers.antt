@@ -1,14 +1,11 @@
 -- `graph::search::relax` meets its contract.
 use mathlib.Core.Path.{◌≡◌}
-use Prim.Native.Nat.{ℕ, ◌≤◌, ◌<◌}
+use Prim.Native.Nat.{ℕ, ◌≤◌}
 use native.Mathlib.Omega.{arith}
-use lib.ListN.{length}
 use lib.IntN.{ℤ, nat_abs}
-use Rattle.walks.specs.Weight.{weight_of}
-use Rattle.walks.proofs.Tests.{again, fits, passed}
+use Rattle.walks.proofs.Tests.{fits, passed}
 use Rattle.walks.proofs.RaisedWeights.{raised_weight_is, small}
-use Rattle.walks.proofs.RelaxTurns.{source, stamp, still, summable, target, positive, kept, changed}
-use Rattle.std.proofs.Common.{rules}
+use Rattle.walks.proofs.RelaxTurns.{source, target, positive, kept, changed}
 use Rattle.graph.proofs.search.relax.Goals as goal
 
 light : (r z : ℤ) (n : ℕ) → r ≡ z → nat_abs z ≤ n → nat_abs r ≤ n

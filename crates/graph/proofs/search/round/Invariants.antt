@@ -1,15 +1,9 @@
 -- `graph::search::round` meets its contract. The loop's invariant is `Turn`.
-use mathlib.Core.Path.{◌≡◌}
-use mathlib.Core.Logic.{⊎_elim}
-use Prim.Native.Nat.{ℕ, ◌+◌, ◌-◌, ◌≤◌, ◌<◌}
-use native.Mathlib.Omega.{arith}
+use Prim.Native.Nat.{◌-◌, ◌≤◌}
 use lib.ListN.{length}
 use Rattle.walks.specs.SearchNumbers.{raised_all, start}
 use Rattle.walks.specs.SearchTerms.{raised_weight}
-use Rattle.walks.proofs.Rounds.{Arcs, Turn}
-use Rattle.walks.proofs.RoundLaws.{ended}
-use Rattle.walks.proofs.RaisedWeights.{arcs}
-use Rattle.walks.proofs.RoundTurns.{turn_begun, turn_lengths, dropped, fell, stayed}
+use Rattle.walks.proofs.Rounds.{Turn}
 use Rattle.graph.proofs.search.round.Given as goal
 
 abbrev pub invariant-loop-e : goal.invariant-loop-e

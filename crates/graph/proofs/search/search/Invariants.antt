@@ -1,15 +1,9 @@
 -- `graph::search::search` meets its contract. The loop's invariant is `Running` at a round's start, and that the buffers are as they were.
-use mathlib.Core.Path.{◌≡◌, refl, ap}
-use mathlib.Core.List.{List}
-use Prim.Native.Nat.{ℕ, ◌+◌, ◌-◌, ◌*◌, ◌<◌}
-use native.Mathlib.Omega.{arith}
-use lib.IntN.{ℤ}
+use mathlib.Core.Path.{◌≡◌}
+use Prim.Native.Nat.{◌-◌, ◌*◌}
 use lib.ListN.{length}
-use Rattle.walks.specs.SearchNumbers.{raised_all, start, per_round}
-use Rattle.walks.specs.SearchTerms.{Climbed, raised_weight, Running}
-use Rattle.walks.proofs.RaisedWeights.{widen}
-use Rattle.walks.proofs.RoundTurns.{turn_lengths, view, all_settled, one_fell, go_on, first_round}
-use Rattle.graph.proofs.Found.{potentials_found, few, cycle_found}
+use Rattle.walks.specs.SearchNumbers.{per_round}
+use Rattle.walks.specs.SearchTerms.{Running}
 use Rattle.graph.proofs.search.search.Given as goal
 
 abbrev pub invariant-loop-k : goal.invariant-loop-k

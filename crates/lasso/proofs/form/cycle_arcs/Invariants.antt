@@ -1,10 +1,6 @@
 -- The entries passed are arcs.
 use Prim.Native.Nat.{ℕ, ◌-◌, ◌≤◌, ◌<◌}
-use borrow.Author.Tests.{not-true, not-false}
-use native.Mathlib.Omega.{arith}
-use Rattle.walks.proofs.Tests.{fails, holds}
 use Rattle.lasso.specs.Answer.{CycleArc}
-use Rattle.lasso.proofs.Passing.{all_more}
 use Rattle.lasso.proofs.form.cycle_arcs.Given as goal
 
 abbrev pub invariant-loop-i : goal.invariant-loop-i

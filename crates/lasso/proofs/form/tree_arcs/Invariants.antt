@@ -1,12 +1,8 @@
 -- The nodes passed have tree arcs.
-use mathlib.Core.Path.{◌≡◌, refl}
-use mathlib.Core.Logic.{◌⊎◌, inl, inr}
+use mathlib.Core.Path.{◌≡◌}
+use mathlib.Core.Logic.{◌⊎◌}
 use Prim.Native.Nat.{ℕ, ◌-◌, ◌≤◌, ◌<◌}
-use borrow.Author.Tests.{not-true, not-false}
-use native.Mathlib.Omega.{arith}
-use Rattle.walks.proofs.Tests.{fails, holds}
 use Rattle.lasso.specs.Answer.{TreeArc}
-use Rattle.lasso.proofs.Passing.{one_more}
 use Rattle.lasso.proofs.form.tree_arcs.Given as goal
 
 abbrev pub invariant-loop-v : goal.invariant-loop-v

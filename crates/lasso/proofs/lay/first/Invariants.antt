@@ -1,10 +1,7 @@
 -- The least source so far, and where it stands.
-use mathlib.Core.Path.{◌≡◌, sym, ap, ◌∙◌}
-use mathlib.Core.Logic.{⊎_elim}
+use mathlib.Core.Path.{◌≡◌}
 use Prim.Native.Nat.{ℕ, ◌-◌, ◌≤◌, ◌<◌}
-use native.Mathlib.Omega.{arith}
 use Rattle.walks.specs.Walk.{at}
-use Rattle.lasso.proofs.Passing.{least_more}
 use Rattle.lasso.proofs.lay.first.Given as goal
 
 abbrev pub invariant-loop-i : goal.invariant-loop-i

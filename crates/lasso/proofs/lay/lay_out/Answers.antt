@@ -3,10 +3,9 @@ use mathlib.Core.Path.{◌≡◌, refl, subst}
 use Prim.Native.Nat.{ℕ, ◌+◌, ◌-◌}
 use lib.ListN.{length}
 use lib.Seq.{slice, paste}
-use Rattle.walks.specs.Lasso.{Tree, Stem}
+use Rattle.walks.specs.Lasso.{Stem}
 use Rattle.lasso.proofs.Laying.{tree_of, laid_out}
 use native.Mathlib.Omega.{arith}
-use Rattle.std.proofs.Common.{rules}
 use Rattle.lasso.proofs.lay.lay_out.Goals as goal
 
 pub stem-top-requires-clause-is_tree : goal.stem-top-requires-clause-is_tree

@@ -1,22 +1,19 @@
 -- The arcs from x to h stand at the end of the list.
-use mathlib.Core.Path.{◌≡◌, refl, subst}
-use Prim.Native.Nat.{ℕ, ◌+◌, ◌≤◌, ◌<◌}
+use mathlib.Core.Path.{◌≡◌, subst}
+use Prim.Native.Nat.{ℕ, ◌≤◌}
 use native.Mathlib.Omega.{arith}
 use lib.ListN.{length, length-set}
-use lib.Seq.{slice, slice_empty}
-use Rattle.walks.specs.Lasso.{Tree, Stem}
-use Rattle.walks.proofs.Trees.{stem_none}
-use Rattle.lasso.specs.Answer.{AlongTree}
+use lib.Seq.{slice}
+use Rattle.walks.specs.Lasso.{Stem}
 use Rattle.lasso.proofs.Passing.{stem_on}
-use Rattle.std.proofs.Common.{rules}
 use Rattle.lasso.proofs.lay.stem.Goals as goal
 
 pub loop-x-preserved : goal.loop-x-preserved
 loop-x-preserved c =
     let in_path : c.loop-x.top ≤ length c.loop-x.path =
-      omega (arith, c.loop-x.invariant.1.0, c.loop-x.invariant.1.1.1.0) in
+    omega (arith, c.loop-x.invariant.1.0, c.loop-x.invariant.1.1.1.0) in
     let ahead : c.loop-x.x ≤ c.loop-x.top =
-      omega (arith, c.loop-x.invariant.1.1.0, c.requires.in_tree, c.requires.path_room) in
+    omega (arith, c.loop-x.invariant.1.1.0, c.requires.in_tree, c.requires.path_room) in
     let v = c.loop-x.invariant in
     let p = c.loop-x-test.true in
     let b = c.requires.is_tree.earlier c.loop-x.x v.0 p in (
@@ -39,6 +36,6 @@ returns-clause-laid c =
     let v = c.loop-x.invariant in
     let z : c.loop-x.x ≡ 0 = omega (arith, c.loop-x-test.false) in
     λ g. (
-          subst (λ (x : ℕ). Stem c.args.from.now g.T g.m x (slice c.loop-x.top (length c.loop-x.path) c.loop-x.path) c.args.h) z (v.1.1.1.1 g).0,
-          (v.1.1.1.1 g).1,
-        )
+      subst (λ (x : ℕ). Stem c.args.from.now g.T g.m x (slice c.loop-x.top (length c.loop-x.path) c.loop-x.path) c.args.h) z (v.1.1.1.1 g).0,
+      (v.1.1.1.1 g).1,
+    )

@@ -1,13 +1,10 @@
 -- The arcs from x to h stand at the end of the list.
-use mathlib.Core.Path.{◌≡◌, refl, subst}
-use Prim.Native.Nat.{ℕ, ◌+◌, ◌≤◌, ◌<◌}
-use native.Mathlib.Omega.{arith}
-use lib.ListN.{length, length-set}
-use lib.Seq.{slice, slice_empty}
+use mathlib.Core.Path.{◌≡◌}
+use Prim.Native.Nat.{◌+◌, ◌≤◌, ◌<◌}
+use lib.ListN.{length}
+use lib.Seq.{slice}
 use Rattle.walks.specs.Lasso.{Tree, Stem}
-use Rattle.walks.proofs.Trees.{stem_none}
 use Rattle.lasso.specs.Answer.{AlongTree}
-use Rattle.lasso.proofs.Passing.{stem_on}
 use Rattle.lasso.proofs.lay.stem.Given as goal
 
 abbrev pub invariant-loop-x : goal.invariant-loop-x

@@ -1,10 +1,8 @@
 -- After i turns the first i entries are copied.
-use mathlib.Core.Path.{◌≡◌, refl, ap, ◌∙◌}
+use mathlib.Core.Path.{◌≡◌}
 use mathlib.Core.List.{◌++◌}
-use Prim.Native.Nat.{ℕ, ◌-◌, ◌≤◌}
-use native.Mathlib.Omega.{arith}
-use lib.ListN.{length, length-set, take, drop}
-use Rattle.walks.proofs.Copies.{copy_more}
+use Prim.Native.Nat.{◌-◌, ◌≤◌}
+use lib.ListN.{length, take, drop}
 use Rattle.ratio.proofs.copy.arcs.Given as goal
 
 abbrev pub invariant-loop-i : goal.invariant-loop-i

@@ -1,14 +1,12 @@
 -- From the last arc to the first: the sum of those passed.
-use mathlib.Core.Path.{◌≡◌, sym, ap, ap₂, ◌∙◌}
-use Prim.Native.Nat.{ℕ, ◌-◌, ◌*◌, ◌≤◌}
+use mathlib.Core.Path.{sym, ap₂, ◌∙◌}
+use Prim.Native.Nat.{◌-◌}
 use native.Mathlib.Omega.{arith}
-use lib.IntN.{nat_abs, ◌+ℤ◌}
-use lib.Seq.{slice}
+use lib.IntN.{◌+ℤ◌}
 use mir.Syntax.{w64}
 use mir.Val.{to_z}
 use Rattle.walks.specs.Walk.{atℤ}
-use Rattle.walks.specs.Weight.{sum}
-use Rattle.ratio.proofs.SumLaws.{sum_none, sum_more, sum_fits, sum_bound, sum_again}
+use Rattle.ratio.proofs.SumLaws.{sum_more, sum_bound, sum_again}
 use Rattle.ratio.proofs.fraction.cost_sum.Goals as goal
 
 pub loop-i-preserved : goal.loop-i-preserved

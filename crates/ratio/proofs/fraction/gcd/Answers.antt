@@ -1,17 +1,14 @@
 -- The common divisors of the two numbers stay as they are.
 use mathlib.Core.Path.{subst⁻¹}
 use Prim.Native.Nat.{ℕ, ◌∣◌}
-use native.Mathlib.Nat.{mod-lt, dvd-zero, dvd_refl, dvd-mod_iff}
-use native.Mathlib.Omega.{arith}
-use Rattle.std.proofs.Common.{rules}
+use native.Mathlib.Nat.{dvd-zero, dvd_refl, dvd-mod_iff}
 use Rattle.ratio.proofs.fraction.gcd.Goals as goal
 
 pub loop-y-preserved : goal.loop-y-preserved
-loop-y-preserved c =
-    (
-      (λ d h k. ((c.loop-y.invariant.0 d h k).1, (dvd-mod_iff d {m = c.loop-y.x} (c.loop-y.invariant.0 d h k).1).1 (c.loop-y.invariant.0 d h k).0)),
-      (λ d h k. c.loop-y.invariant.1 d ((dvd-mod_iff d {m = c.loop-y.x} h).0 k) h),
-    )
+loop-y-preserved c = (
+  (λ d h k. ((c.loop-y.invariant.0 d h k).1, (dvd-mod_iff d {m = c.loop-y.x} (c.loop-y.invariant.0 d h k).1).1 (c.loop-y.invariant.0 d h k).0)),
+  (λ d h k. c.loop-y.invariant.1 d ((dvd-mod_iff d {m = c.loop-y.x} h).0 k) h),
+)
 
 pub returns : goal.returns
 returns c =

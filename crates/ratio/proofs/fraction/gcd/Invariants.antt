@@ -1,8 +1,5 @@
 -- The common divisors of the two numbers stay as they are.
-use mathlib.Core.Path.{subst⁻¹}
 use Prim.Native.Nat.{ℕ, ◌∣◌}
-use native.Mathlib.Nat.{mod-lt, dvd-zero, dvd_refl, dvd-mod_iff}
-use native.Mathlib.Omega.{arith}
 use Rattle.ratio.proofs.fraction.gcd.Given as goal
 
 abbrev pub invariant-loop-y : goal.invariant-loop-y

@@ -1,12 +1,9 @@
 -- From the last arc to the first: the sum of those passed.
-use mathlib.Core.Path.{◌≡◌, sym, ap, ap₂, ◌∙◌}
-use Prim.Native.Nat.{ℕ, ◌+◌, ◌-◌, ◌*◌, ◌≤◌}
+use mathlib.Core.Path.{sym, ap₂, ◌∙◌}
+use Prim.Native.Nat.{◌+◌}
 use native.Mathlib.Omega.{arith}
-use lib.Seq.{slice}
 use Rattle.walks.specs.Walk.{at}
-use Rattle.walks.specs.Weight.{total}
-use Rattle.ratio.proofs.SumLaws.{total_none, total_more}
-use Rattle.std.proofs.Common.{rules}
+use Rattle.ratio.proofs.SumLaws.{total_more}
 use Rattle.ratio.proofs.fraction.reward_sum.Goals as goal
 
 pub loop-i-preserved : goal.loop-i-preserved

@@ -1,11 +1,9 @@
 -- From the last arc to the first: the sum of those passed.
-use mathlib.Core.Path.{◌≡◌, sym, ap, ap₂, ◌∙◌}
-use Prim.Native.Nat.{ℕ, ◌+◌, ◌-◌, ◌*◌, ◌≤◌}
-use native.Mathlib.Omega.{arith}
+use mathlib.Core.Path.{◌≡◌}
+use Prim.Native.Nat.{◌-◌, ◌*◌, ◌≤◌}
 use lib.Seq.{slice}
 use Rattle.walks.specs.Walk.{at}
 use Rattle.walks.specs.Weight.{total}
-use Rattle.ratio.proofs.SumLaws.{total_none, total_more}
 use Rattle.ratio.proofs.fraction.reward_sum.Given as goal
 
 abbrev pub invariant-loop-i : goal.invariant-loop-i

@@ -1,23 +1,21 @@
 -- The loop, and what it comes to.
 use mathlib.Core.Path.{refl}
-use mathlib.Core.List.{List}
-use Prim.Native.Nat.{ℕ, ◌≤◌}
+use Prim.Native.Nat.{◌≤◌}
 use native.Mathlib.Omega.{arith}
-use lib.IntN.{ℤ, neg_ℤ}
+use lib.IntN.{neg_ℤ}
 use lib.ListN.{length}
 use Rattle.integers.proofs.Machine.{small}
-use Rattle.ratio.specs.Answer.{no_to_14, yes_to_both}
-use Rattle.ratio.specs.Turns.{LeastInHand, GainFound}
+use Rattle.ratio.specs.Answer.{yes_to_both}
+use Rattle.ratio.specs.Turns.{LeastInHand}
 use Rattle.ratio.proofs.Searches.{no_idle_gain}
-use Rattle.ratio.proofs.TurnLaws.{settled_gain, settled_least, again_settled}
+use Rattle.ratio.proofs.TurnLaws.{settled_least, again_settled}
 use Rattle.ratio.proofs.RatioAnswerLaws.{copied_front, copied_rest}
-use Rattle.std.proofs.Common.{rules}
 use Rattle.ratio.proofs.improve.least_from.Goals as goal
 
 pub returns-in-Least : goal.returns-in-Least
 returns-in-Least c =
     let least : let a = c.args in LeastInHand a.from.now a.to.now a.cost.now a.reward.now a.nodes a.potential.now c.settle-settled.new.potential c.settle-settled.new.hand c.in-Least.p c.in-Least.q c.in-Least.arcs =
-      let a = c.args in
+    let a = c.args in
     settled_least a.from.now a.to.now a.cost.now a.reward.now a.nodes a.potential.now c.settle-settled.new.potential c.settle-settled.new.hand
     c.settle-settled.result c.settle-settled.ensures c.in-Least.p c.in-Least.q c.in-Least.arcs c.in-Least.is in
     let a = c.args in

@@ -1,18 +1,10 @@
 -- A simple cycle that earns is in hand, and its height falls.
-use mathlib.Core.Path.{subst, ◌≡◌, refl, ap, ◌∙◌}
-use mathlib.Core.List.{List}
-use Prim.Native.Nat.{ℕ}
-use lib.IntN.{ℤ}
-use mir.Syntax.{w64}
-use mir.Val.{to_z, of_z}
-use Rattle.integers.proofs.Machine.{small}
-use Rattle.ratio.specs.Turns.{LeastInHand, InHand, Earns, Improved}
-use native.Mathlib.Omega.{arith}
+use mathlib.Core.Path.{◌≡◌}
+use Rattle.ratio.specs.Turns.{InHand, Earns}
 use lib.ListN.{length, take}
 use Rattle.walks.specs.Walk.{at, atℤ}
 use Rattle.walks.specs.Weight.{sum, total}
 use Rattle.ratio.proofs.Heights.{height}
-use Rattle.ratio.proofs.TurnLaws.{falls, same_arguments, was_better, was_gain, was_done, again_settled}
 use Rattle.ratio.proofs.improve.settle.Given as goal
 
 abbrev pub invariant-loop-j : goal.invariant-loop-j

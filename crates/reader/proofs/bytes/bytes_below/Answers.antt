@@ -4,9 +4,7 @@ use Prim.Native.Nat.{ℕ, ◌+◌, ◌-◌}
 use native.Mathlib.Omega.{arith}
 use lib.Bits.{bit_and}
 use lib.Count.{ones}
-use lib.Pow.{pow_pos}
 use Rattle.sheet.proofs.MapLaws.{one_shl, counted}
-use Rattle.std.proofs.Common.{rules}
 use Rattle.reader.proofs.bytes.bytes_below.Goals as goal
 
 pub returns : goal.returns

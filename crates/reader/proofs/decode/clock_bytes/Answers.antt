@@ -1,7 +1,7 @@
 -- Clock by clock.
 use mathlib.Core.Path.{◌≡◌, refl, ap, ◌∙◌}
 use mathlib.Core.Option.{get_or}
-use Prim.Native.Nat.{ℕ, ◌+◌, ◌-◌, ◌≤◌}
+use Prim.Native.Nat.{ℕ, ◌+◌}
 use native.Mathlib.Omega.{arith}
 use Rattle.sheet.specs.Fields.{edition_at}
 use Rattle.sheet.specs.Records.{field_at, edition_of}

@@ -1,13 +1,9 @@
 -- Clock by clock.
-use mathlib.Core.Path.{◌≡◌, refl, ap, ◌∙◌}
+use mathlib.Core.Path.{◌≡◌}
 use mathlib.Core.Option.{get_or}
-use Prim.Native.Nat.{ℕ, ◌+◌, ◌-◌, ◌≤◌}
-use native.Mathlib.Omega.{arith}
-use Rattle.sheet.specs.Fields.{edition_at}
-use Rattle.sheet.specs.Records.{field_at, edition_of}
-use Rattle.sheet.specs.Decoded.{filled, clock_bytes}
-use Rattle.sheet.proofs.FieldLaws.{edition_clocks}
-use Rattle.sheet.proofs.DecodeLaws.{filled_more}
+use Prim.Native.Nat.{◌+◌, ◌-◌, ◌≤◌}
+use Rattle.sheet.specs.Records.{field_at}
+use Rattle.sheet.specs.Decoded.{filled}
 use Rattle.reader.proofs.decode.clock_bytes.Given as goal
 
 abbrev pub invariant-loop-j : goal.invariant-loop-j

@@ -3,7 +3,6 @@ use Rattle.sheet.specs.declared.fields.Kind.TheVariants.{LocationRecord}
 use native.Mathlib.Omega.{arith}
 use Rattle.sheet.proofs.AcceptedLaws.{header}
 use Rattle.sheet.proofs.RecordLaws.{at_le}
-use Rattle.std.proofs.Common.{rules}
 use Rattle.reader.proofs.decode.decoded.Goals as goal
 
 pub read_locations-location-requires : goal.read_locations-location-requires

@@ -1,6 +1,5 @@
 -- The place of each record in turn.
-use mathlib.Core.Path.{◌≡◌, refl, ap, ◌∙◌}
-use Prim.Native.Nat.{◌-◌, ◌≤◌}
+use mathlib.Core.Path.{refl}
 use native.Mathlib.Omega.{arith}
 use Rattle.sheet.specs.Records.{record_at}
 use Rattle.sheet.proofs.RecordLaws.{at_le, at_more, length-le}

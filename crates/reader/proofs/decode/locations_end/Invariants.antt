@@ -1,9 +1,7 @@
 -- The place of each record in turn.
-use mathlib.Core.Path.{◌≡◌, refl, ap, ◌∙◌}
+use mathlib.Core.Path.{◌≡◌}
 use Prim.Native.Nat.{◌-◌, ◌≤◌}
-use native.Mathlib.Omega.{arith}
 use Rattle.sheet.specs.Records.{record_at}
-use Rattle.sheet.proofs.RecordLaws.{at_le, at_more, length-le}
 use Rattle.sheet.specs.declared.fields.Kind.TheVariants.{LocationRecord}
 use Rattle.reader.proofs.decode.locations_end.Given as goal
 

@@ -1,6 +1,6 @@
 -- Record by record.
-use mathlib.Core.Path.{◌≡◌, refl, ap, ◌∙◌}
-use Prim.Native.Nat.{ℕ, ◌-◌, ◌≤◌}
+use mathlib.Core.Path.{refl}
+use Prim.Native.Nat.{ℕ}
 use native.Mathlib.Omega.{arith}
 use Rattle.sheet.specs.Records.{record_at}
 use Rattle.sheet.proofs.RecordLaws.{at_le, at_more, length-le}

@@ -1,11 +1,8 @@
 -- Record by record.
-use mathlib.Core.Path.{◌≡◌, refl, ap, ◌∙◌}
-use Prim.Native.Nat.{ℕ, ◌-◌, ◌≤◌}
-use native.Mathlib.Omega.{arith}
+use mathlib.Core.Path.{◌≡◌}
+use Prim.Native.Nat.{◌-◌, ◌≤◌}
 use Rattle.sheet.specs.Records.{record_at}
-use Rattle.sheet.proofs.RecordLaws.{at_le, at_more, length-le}
-use Rattle.sheet.proofs.DecodeLaws.{filled_more}
-use Rattle.sheet.specs.Decoded.{filled, edge_of, blank_edge, edges_of}
+use Rattle.sheet.specs.Decoded.{edges_of}
 use Rattle.sheet.specs.declared.fields.Kind.TheVariants.{EdgeRecord}
 use Rattle.reader.proofs.decode.read_edges.Given as goal
 

@@ -1,11 +1,8 @@
 -- Record by record.
-use mathlib.Core.Path.{◌≡◌, refl, ap, ◌∙◌}
-use Prim.Native.Nat.{ℕ, ◌-◌, ◌≤◌}
-use native.Mathlib.Omega.{arith}
+use mathlib.Core.Path.{◌≡◌}
+use Prim.Native.Nat.{◌-◌, ◌≤◌}
 use Rattle.sheet.specs.Records.{record_at}
-use Rattle.sheet.proofs.RecordLaws.{at_le, at_more, length-le}
-use Rattle.sheet.proofs.DecodeLaws.{filled_more}
-use Rattle.sheet.specs.Decoded.{filled, location_of, blank_location, locations_of}
+use Rattle.sheet.specs.Decoded.{locations_of}
 use Rattle.sheet.specs.declared.fields.Kind.TheVariants.{LocationRecord}
 use Rattle.reader.proofs.decode.read_locations.Given as goal
 

@@ -1,8 +1,8 @@
 -- Each record before the one in hand differs from all before it.
 use mathlib.Core.Path.{◌≡◌, refl, sym, ap, ap₂, ◌∙◌}
-use mathlib.Core.Bool.{true, not}
+use mathlib.Core.Bool.{not}
 use mathlib.Core.List.{List}
-use Prim.Native.Nat.{ℕ, ◌+◌, ◌-◌, ◌≤◌}
+use Prim.Native.Nat.{ℕ, ◌+◌}
 use native.Mathlib.Omega.{arith}
 use lib.ListN.{get_or, set}
 use Rattle.sheet.specs.Records.{record_at, record_length}
@@ -14,7 +14,7 @@ use Rattle.sheet.specs.declared.fields.Kind.TheVariants.{EdgeRecord}
 use Rattle.sheet.proofs.RecordLaws.{at_le, at_more, at_inside, length-le}
 use Rattle.sheet.proofs.QuestionLaws.{each_none, each_more}
 use Rattle.sheet.proofs.DecodeLaws.{filled_more, filled_at}
-use Rattle.sheet.proofs.PairLaws.{begins, keys, differs, is_new, compared, twice, none_twice}
+use Rattle.sheet.proofs.PairLaws.{begins, differs, is_new, compared, twice, none_twice}
 use Rattle.std.proofs.Common.{rules}
 use Rattle.reader.proofs.distinct.distinct_refusal.Goals as goal
 
@@ -42,9 +42,9 @@ loop-i-init c =
 pub same_record-requires-clause-keys : goal.same_record-requires-clause-keys
 same_record-requires-clause-keys c =
     let here_is : c.key_at-key.result ≡ key_of c.args.s.now (begins c.args.s.now c.args.from c.loop-j.j) =
-      c.key_at-key.ensures ∙ ap (key_of c.args.s.now) c.loop-j.invariant.1.0 in
+    c.key_at-key.ensures ∙ ap (key_of c.args.s.now) c.loop-j.invariant.1.0 in
     let earlier_is : get_or c.loop-j.keys c.loop-i.i blank_key ≡ key_of c.args.s.now (begins c.args.s.now c.args.from c.loop-i.i) =
-      let a = c.args in
+    let a = c.args in
     ap (λ (k : List Key). get_or k c.loop-i.i blank_key) c.loop-j.invariant.1.1.0
     ∙ filled_at (λ i. key_of a.s.now (begins a.s.now a.from i)) blank_key 32 c.loop-j.j c.loop-i.i (omega arith) (omega arith) in
     let a = c.args in
@@ -55,32 +55,32 @@ same_record-requires-clause-keys c =
 pub same_record-requires-clause-places : goal.same_record-requires-clause-places
 same_record-requires-clause-places c =
     let here_is : c.key_at-key.result ≡ key_of c.args.s.now (begins c.args.s.now c.args.from c.loop-j.j) =
-      c.key_at-key.ensures ∙ ap (key_of c.args.s.now) c.loop-j.invariant.1.0 in
+    c.key_at-key.ensures ∙ ap (key_of c.args.s.now) c.loop-j.invariant.1.0 in
     let earlier_is : get_or c.loop-j.keys c.loop-i.i blank_key ≡ key_of c.args.s.now (begins c.args.s.now c.args.from c.loop-i.i) =
-      let a = c.args in
+    let a = c.args in
     ap (λ (k : List Key). get_or k c.loop-i.i blank_key) c.loop-j.invariant.1.1.0
     ∙ filled_at (λ i. key_of a.s.now (begins a.s.now a.from i)) blank_key 32 c.loop-j.j c.loop-i.i (omega arith) (omega arith) in
     let a = c.args in
     let x = earlier_is in
     let y = here_is in
     omega (
-        arith,
-        ap (λ (k : Key). k.at) x,
-        ap (λ (k : Key). k.at) y,
-        at_le EdgeRecord a.s.now a.from c.loop-i.i,
-        at_le EdgeRecord a.s.now a.from c.loop-j.j,
-      )
+      arith,
+      ap (λ (k : Key). k.at) x,
+      ap (λ (k : Key). k.at) y,
+      at_le EdgeRecord a.s.now a.from c.loop-i.i,
+      at_le EdgeRecord a.s.now a.from c.loop-j.j,
+    )
 
 pub loop-i-preserved : goal.loop-i-preserved
 loop-i-preserved c =
     let here_is : c.key_at-key.result ≡ key_of c.args.s.now (begins c.args.s.now c.args.from c.loop-j.j) =
-      c.key_at-key.ensures ∙ ap (key_of c.args.s.now) c.loop-j.invariant.1.0 in
+    c.key_at-key.ensures ∙ ap (key_of c.args.s.now) c.loop-j.invariant.1.0 in
     let earlier_is : get_or c.loop-j.keys c.loop-i.i blank_key ≡ key_of c.args.s.now (begins c.args.s.now c.args.from c.loop-i.i) =
-      let a = c.args in
+    let a = c.args in
     ap (λ (k : List Key). get_or k c.loop-i.i blank_key) c.loop-j.invariant.1.1.0
     ∙ filled_at (λ i. key_of a.s.now (begins a.s.now a.from i)) blank_key 32 c.loop-j.j c.loop-i.i (omega arith) (omega arith) in
     let was_compared : differs c.args.s.now c.args.from c.loop-j.j c.loop-i.i ≡ not c.same_record.result =
-      let a = c.args in
+    let a = c.args in
     compared a.s.now a.from c.loop-i.i c.loop-j.j _ _ c.same_record.result earlier_is here_is c.same_record.ensures in
     let a = c.args in (
       each_more c.loop-i.i (differs a.s.now a.from c.loop-j.j) c.loop-i.invariant.0
@@ -91,7 +91,7 @@ loop-i-preserved c =
 pub overflow_add-at : goal.overflow_add-at
 overflow_add-at c =
     let here_is : c.key_at-key.result ≡ key_of c.args.s.now (begins c.args.s.now c.args.from c.loop-j.j) =
-      c.key_at-key.ensures ∙ ap (key_of c.args.s.now) c.loop-j.invariant.1.0 in
+    c.key_at-key.ensures ∙ ap (key_of c.args.s.now) c.loop-j.invariant.1.0 in
     let a = c.args in
     omega (
       arith,
@@ -103,7 +103,7 @@ overflow_add-at c =
 pub loop-j-preserved : goal.loop-j-preserved
 loop-j-preserved c =
     let here_is : c.key_at-key.result ≡ key_of c.args.s.now (begins c.args.s.now c.args.from c.loop-j.j) =
-      c.key_at-key.ensures ∙ ap (key_of c.args.s.now) c.loop-j.invariant.1.0 in
+    c.key_at-key.ensures ∙ ap (key_of c.args.s.now) c.loop-j.invariant.1.0 in
     let a = c.args in
     let v = c.loop-j.invariant.1 in
     let last : c.loop-j.j ≡ c.loop-i.i = omega arith in (
@@ -122,13 +122,13 @@ loop-j-preserved c =
 pub returns-then-same_record : goal.returns-then-same_record
 returns-then-same_record c =
     let here_is : c.key_at-key.result ≡ key_of c.args.s.now (begins c.args.s.now c.args.from c.loop-j.j) =
-      c.key_at-key.ensures ∙ ap (key_of c.args.s.now) c.loop-j.invariant.1.0 in
+    c.key_at-key.ensures ∙ ap (key_of c.args.s.now) c.loop-j.invariant.1.0 in
     let earlier_is : get_or c.loop-j.keys c.loop-i.i blank_key ≡ key_of c.args.s.now (begins c.args.s.now c.args.from c.loop-i.i) =
-      let a = c.args in
+    let a = c.args in
     ap (λ (k : List Key). get_or k c.loop-i.i blank_key) c.loop-j.invariant.1.1.0
     ∙ filled_at (λ i. key_of a.s.now (begins a.s.now a.from i)) blank_key 32 c.loop-j.j c.loop-i.i (omega arith) (omega arith) in
     let was_compared : differs c.args.s.now c.args.from c.loop-j.j c.loop-i.i ≡ not c.same_record.result =
-      let a = c.args in
+    let a = c.args in
     compared a.s.now a.from c.loop-i.i c.loop-j.j _ _ c.same_record.result earlier_is here_is c.same_record.ensures in
     let a = c.args in
     twice a.edges a.s.now a.from c.loop-i.i c.loop-j.j (omega arith) (omega arith) (was_compared ∙ ap not c.if-same_record.true)

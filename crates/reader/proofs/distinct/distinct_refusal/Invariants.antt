@@ -1,20 +1,9 @@
 -- Each record before the one in hand differs from all before it.
-use mathlib.Core.Path.{◌≡◌, refl, sym, ap, ap₂, ◌∙◌}
-use mathlib.Core.Bool.{true, not}
-use mathlib.Core.List.{List}
-use Prim.Native.Nat.{ℕ, ◌+◌, ◌-◌, ◌≤◌}
-use native.Mathlib.Omega.{arith}
-use lib.ListN.{get_or, set}
-use Rattle.sheet.specs.Records.{record_at, record_length}
+use mathlib.Core.Path.{◌≡◌}
+use mathlib.Core.Bool.{true}
+use Prim.Native.Nat.{◌-◌, ◌≤◌}
 use Rattle.sheet.specs.Questions.{each}
-use Rattle.sheet.specs.Decoded.{filled}
-use Rattle.sheet.specs.Keys.{key_of, blank_key}
-use Rattle.sheet.specs.declared.keys.Key.{Key}
-use Rattle.sheet.specs.declared.fields.Kind.TheVariants.{EdgeRecord}
-use Rattle.sheet.proofs.RecordLaws.{at_le, at_more, at_inside, length-le}
-use Rattle.sheet.proofs.QuestionLaws.{each_none, each_more}
-use Rattle.sheet.proofs.DecodeLaws.{filled_more, filled_at}
-use Rattle.sheet.proofs.PairLaws.{begins, keys, differs, is_new, compared, twice, none_twice}
+use Rattle.sheet.proofs.PairLaws.{begins, keys, differs, is_new}
 use Rattle.reader.proofs.distinct.distinct_refusal.Given as goal
 
 abbrev pub invariant-loop-i : goal.invariant-loop-i

@@ -1,10 +1,7 @@
 -- The bytes passed are the same.
-use mathlib.Core.Path.{◌≡◌, sym, ◌∙◌}
-use mathlib.Core.Bool.{true}
-use Prim.Native.Nat.{◌-◌, ◌≤◌}
+use mathlib.Core.Path.{sym, ◌∙◌}
 use borrow.Author.Tests.{eq-eqb, ne_eqb}
-use Rattle.sheet.specs.Questions.{each}
-use Rattle.sheet.proofs.QuestionLaws.{each_none, each_more, each_fails, each_all}
+use Rattle.sheet.proofs.QuestionLaws.{each_none, each_more, each_fails}
 use Rattle.sheet.proofs.PairLaws.{same_at}
 use Rattle.std.proofs.Common.{rules}
 use Rattle.reader.proofs.distinct.same_bytes.Goals as goal

@@ -5,7 +5,6 @@ use lib.Signed.{lt_z, le_z}
 use mir.Syntax.{w16}
 use mir.ValLaws.{to_z-of_z}
 use Rattle.sheet.proofs.FieldLaws.{no_cost, low_cost, other_cost}
-use Rattle.std.proofs.Common.{rules}
 use Rattle.reader.proofs.fields.cost_in_range.Goals as goal
 
 pub returns-then-z-eq0 : goal.returns-then-z-eq0

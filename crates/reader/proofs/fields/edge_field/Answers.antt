@@ -6,7 +6,6 @@ use Rattle.sheet.specs.Fields.{edition_at, field_of}
 use Rattle.sheet.specs.declared.fields.Kind.TheVariants.{EdgeRecord}
 use Rattle.sheet.specs.declared.fields.Field.TheVariants.{Upper}
 use Rattle.sheet.proofs.FieldLaws.{edge_lower, edge_upper, edge_unused}
-use Rattle.std.proofs.Common.{rules}
 use Rattle.reader.proofs.fields.edge_field.Goals as goal
 
 pub returns-then-b-most : goal.returns-then-b-most

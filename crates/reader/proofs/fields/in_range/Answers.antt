@@ -3,12 +3,10 @@ use Rattle.sheet.specs.Fields.{is_within, cost_in_range, in_range}
 use mir.Syntax.{w16}
 use mathlib.Core.Path.{sym, ap, ◌∙◌}
 use Prim.Native.Nat.{ℕ, ◌-◌}
-use borrow.Author.Rules.{rules, sfits_of}
+use borrow.Author.Rules.{sfits_of}
 use native.Mathlib.Omega.{arith}
-use lib.Pow.{pow_pos}
 use mir.ValLaws.{to_z-of_z}
 use Rattle.sheet.proofs.MapLaws.{one_shl}
-use Rattle.std.proofs.Common.{rules}
 use Rattle.reader.proofs.fields.in_range.Goals as goal
 
 pub returns-in-Cost : goal.returns-in-Cost

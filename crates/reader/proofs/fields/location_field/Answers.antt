@@ -4,7 +4,6 @@ use native.Mathlib.Omega.{arith}
 use Rattle.sheet.specs.Fields.{edition_at, field_of}
 use Rattle.sheet.specs.declared.fields.Kind.TheVariants.{LocationRecord}
 use Rattle.sheet.proofs.FieldLaws.{location_upper, location_unused}
-use Rattle.std.proofs.Common.{rules}
 use Rattle.reader.proofs.fields.location_field.Goals as goal
 
 pub returns-then-b-most : goal.returns-then-b-most

@@ -1,7 +1,6 @@
 -- Case by case.
 use mathlib.Core.Path.{sym, ap}
 use Rattle.sheet.specs.Fields.{permitted_field}
-use Rattle.std.proofs.Common.{rules}
 use Rattle.reader.proofs.fields.permitted.Goals as goal
 
 pub returns-in-Cost : goal.returns-in-Cost

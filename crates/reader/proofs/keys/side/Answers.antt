@@ -1,7 +1,6 @@
 -- By the number of bytes.
 use native.Mathlib.Omega.{arith}
 use Rattle.sheet.proofs.KeyLaws.{side_four, side_eight}
-use Rattle.std.proofs.Common.{rules}
 use Rattle.reader.proofs.keys.side.Goals as goal
 
 pub returns-then-count-lt8 : goal.returns-then-count-lt8

@@ -2,7 +2,6 @@
 use mathlib.Core.Path.{sym, ap, ◌∙◌}
 use Rattle.sheet.specs.Fields.{edition_at, permitted_field}
 use Rattle.sheet.proofs.CodeLaws.{bit_clear, bit_is}
-use Rattle.std.proofs.Common.{rules}
 use Rattle.reader.proofs.questions.bit_good.Goals as goal
 
 pub returns-then-bit-eq0 : goal.returns-then-bit-eq0

@@ -1,11 +1,10 @@
 -- The bits passed are set.
-use mathlib.Core.Path.{◌≡◌, sym, ap, ◌∙◌}
-use Prim.Native.Nat.{ℕ, ◌+◌, ◌-◌, ◌≤◌}
+use mathlib.Core.Path.{sym, ap, ◌∙◌}
+use Prim.Native.Nat.{ℕ, ◌+◌}
 use Rattle.sheet.specs.Maps.{bit_of, stands}
-use mathlib.Core.Bool.{true}
 use Rattle.sheet.specs.Fields.{bound_bit}
 use Rattle.sheet.specs.Records.{map_of}
-use Rattle.sheet.specs.Questions.{each, bounds_refusal}
+use Rattle.sheet.specs.Questions.{bounds_refusal}
 use Rattle.sheet.specs.declared.fields.Kind.TheVariants.{LocationRecord}
 use Rattle.sheet.proofs.QuestionLaws.{each_none, each_more, answer_no, answer_yes}
 use Rattle.sheet.proofs.CodeLaws.{clear, set_bit}

@@ -2,7 +2,6 @@
 use Rattle.sheet.proofs.QuestionLaws.{first_of_three, second_of_three, third_of_three}
 use Rattle.sheet.specs.Questions.{edge_refusal, ends_refusal, fields_refusal, map_refusal}
 use Rattle.sheet.specs.declared.fields.Kind.TheVariants.{EdgeRecord}
-use Rattle.std.proofs.Common.{rules}
 use Rattle.reader.proofs.questions.edge_refusal.Goals as goal
 
 pub returns-then-map-ne0 : goal.returns-then-map-ne0

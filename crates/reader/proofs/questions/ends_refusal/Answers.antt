@@ -1,7 +1,6 @@
 -- Source and target, one after the other.
 use native.Mathlib.Omega.{arith}
 use Rattle.sheet.proofs.CodeLaws.{no_source, no_target, ends_there}
-use Rattle.std.proofs.Common.{rules}
 use Rattle.reader.proofs.questions.ends_refusal.Goals as goal
 
 pub returns-then-locations-number : goal.returns-then-locations-number

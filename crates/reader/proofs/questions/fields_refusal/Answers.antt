@@ -1,9 +1,7 @@
 -- The fields passed are absent or in range.
-use Rattle.sheet.proofs.QuestionLaws.{denied, granted, each_none, each_more, answer_no, answer_yes}
-use mathlib.Core.Path.{◌≡◌, sym, ◌∙◌}
-use mathlib.Core.Bool.{true}
-use Prim.Native.Nat.{◌-◌, ◌≤◌}
-use Rattle.sheet.specs.Questions.{each, field_good, fields_refusal}
+use Rattle.sheet.proofs.QuestionLaws.{each_none, each_more, answer_no, answer_yes}
+use mathlib.Core.Path.{sym, ◌∙◌}
+use Rattle.sheet.specs.Questions.{field_good, fields_refusal}
 use Rattle.std.proofs.Common.{rules}
 use Rattle.reader.proofs.questions.fields_refusal.Goals as goal
 

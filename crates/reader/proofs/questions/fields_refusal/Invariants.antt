@@ -1,9 +1,8 @@
 -- The fields passed are absent or in range.
-use Rattle.sheet.proofs.QuestionLaws.{denied, granted, each_none, each_more, answer_no, answer_yes}
 use mathlib.Core.Path.{◌≡◌}
 use mathlib.Core.Bool.{true}
 use Prim.Native.Nat.{◌-◌, ◌≤◌}
-use Rattle.sheet.specs.Questions.{each, field_good, fields_refusal}
+use Rattle.sheet.specs.Questions.{each, field_good}
 use Rattle.reader.proofs.questions.fields_refusal.Given as goal
 
 abbrev pub invariant-loop-b : goal.invariant-loop-b

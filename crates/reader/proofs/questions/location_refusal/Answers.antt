@@ -2,7 +2,6 @@
 use Rattle.sheet.proofs.QuestionLaws.{first_of_three, second_of_three, third_of_three}
 use Rattle.sheet.specs.Questions.{bounds_refusal, fields_refusal, location_refusal, map_refusal}
 use Rattle.sheet.specs.declared.fields.Kind.TheVariants.{LocationRecord}
-use Rattle.std.proofs.Common.{rules}
 use Rattle.reader.proofs.questions.location_refusal.Goals as goal
 
 pub returns-then-map-ne0 : goal.returns-then-map-ne0

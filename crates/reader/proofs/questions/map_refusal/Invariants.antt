@@ -1,14 +1,9 @@
 -- The bits passed are clear or permitted.
-use mathlib.Core.Path.{◌≡◌, ap₂, ◌∙◌}
-use Rattle.sheet.proofs.QuestionLaws.{denied, granted, each_none, each_more, each_fails, each_all}
-use Prim.Native.Nat.{ℕ, ◌-◌, ◌≤◌}
+use mathlib.Core.Path.{◌≡◌}
+use Prim.Native.Nat.{◌-◌, ◌≤◌}
 use mathlib.Core.Bool.{true}
-use native.Mathlib.Omega.{arith}
-use Rattle.sheet.specs.Fields.{edition_at}
 use Rattle.sheet.specs.Records.{map_of, edition_of}
 use Rattle.sheet.specs.Questions.{each, bit_good}
-use Rattle.sheet.proofs.RecordLaws.{map-le, length-le}
-use Rattle.sheet.proofs.CodeLaws.{no_map, bad_bit, no_fields, map_good}
 use Rattle.reader.proofs.questions.map_refusal.Given as goal
 
 abbrev pub invariant-loop-b : goal.invariant-loop-b

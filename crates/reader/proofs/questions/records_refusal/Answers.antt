@@ -1,6 +1,6 @@
 -- Every record before the one in hand has passed.
-use mathlib.Core.Path.{◌≡◌, refl, sym, ap, ap₂, ◌∙◌}
-use Prim.Native.Nat.{ℕ, ◌+◌, ◌-◌, ◌≤◌}
+use mathlib.Core.Path.{◌≡◌, sym, ap, ap₂, ◌∙◌}
+use Prim.Native.Nat.{ℕ, ◌+◌}
 use lib.ListN.{length}
 use Rattle.sheet.specs.Records.{record_at, record_length, location_at}
 use Rattle.sheet.specs.Questions.{first_of, location_refusal, edge_refusal, distinct_refusal}
@@ -113,7 +113,7 @@ returns-then-at-s c =
 pub returns-then-twice-ne0 : goal.returns-then-twice-ne0
 returns-then-twice-ne0 c =
     let all_passed : let a = c.args in (first_of a.locations (of_location a.clocks a.locations a.edges a.s.now) ≡ 0) × ((first_of a.edges (of_edge a.clocks a.locations a.edges a.s.now) ≡ 0) × (record_at EdgeRecord a.s.now (location_at a.s.now a.locations) a.edges ≡ length a.s.now)) =
-      let a = c.args in
+    let a = c.args in
     let l = c.loop-e in
     let e : a.edges ≡ l.e = omega arith in (
       l.invariant.1.1.0,
@@ -123,7 +123,7 @@ returns-then-twice-ne0 c =
       ),
     ) in
     let was_asked : let a = c.args in c.distinct_refusal-twice.result ≡ distinct_refusal a.edges a.s.now (location_at a.s.now a.locations) =
-      let a = c.args in
+    let a = c.args in
     c.distinct_refusal-twice.ensures ∙ ap (distinct_refusal a.edges a.s.now) c.loop-e.invariant.0.1 in
     let p = was_asked in
     let w = all_passed in
@@ -133,7 +133,7 @@ returns-then-twice-ne0 c =
 pub returns-else-twice-ne0 : goal.returns-else-twice-ne0
 returns-else-twice-ne0 c =
     let all_passed : let a = c.args in (first_of a.locations (of_location a.clocks a.locations a.edges a.s.now) ≡ 0) × ((first_of a.edges (of_edge a.clocks a.locations a.edges a.s.now) ≡ 0) × (record_at EdgeRecord a.s.now (location_at a.s.now a.locations) a.edges ≡ length a.s.now)) =
-      let a = c.args in
+    let a = c.args in
     let l = c.loop-e in
     let e : a.edges ≡ l.e = omega arith in (
       l.invariant.1.1.0,
@@ -143,7 +143,7 @@ returns-else-twice-ne0 c =
       ),
     ) in
     let was_asked : let a = c.args in c.distinct_refusal-twice.result ≡ distinct_refusal a.edges a.s.now (location_at a.s.now a.locations) =
-      let a = c.args in
+    let a = c.args in
     c.distinct_refusal-twice.ensures ∙ ap (distinct_refusal a.edges a.s.now) c.loop-e.invariant.0.1 in
     let w = all_passed in
     let a = c.args in
@@ -153,7 +153,7 @@ returns-else-twice-ne0 c =
 pub distinct_refusal-twice-requires-clause-in_sheet : goal.distinct_refusal-twice-requires-clause-in_sheet
 distinct_refusal-twice-requires-clause-in_sheet c =
     let all_passed : let a = c.args in (first_of a.locations (of_location a.clocks a.locations a.edges a.s.now) ≡ 0) × ((first_of a.edges (of_edge a.clocks a.locations a.edges a.s.now) ≡ 0) × (record_at EdgeRecord a.s.now (location_at a.s.now a.locations) a.edges ≡ length a.s.now)) =
-      let a = c.args in
+    let a = c.args in
     let l = c.loop-e in
     let e : a.edges ≡ l.e = omega arith in (
       l.invariant.1.1.0,

@@ -1,14 +1,10 @@
 -- Every record before the one in hand has passed.
-use mathlib.Core.Path.{◌≡◌, refl, sym, ap, ap₂, ◌∙◌}
-use Prim.Native.Nat.{ℕ, ◌+◌, ◌-◌, ◌≤◌}
-use lib.ListN.{length}
-use Rattle.sheet.specs.Records.{record_at, record_length, location_at}
-use Rattle.sheet.specs.Questions.{first_of, location_refusal, edge_refusal, distinct_refusal}
-use native.Mathlib.Omega.{arith}
-use Rattle.sheet.specs.declared.fields.Kind.TheVariants.{LocationRecord, EdgeRecord}
-use Rattle.sheet.proofs.RecordLaws.{at_le, at_more, length-le}
-use Rattle.sheet.proofs.QuestionLaws.{first_none, first_more}
-use Rattle.sheet.proofs.CodeLaws.{of_location, of_edge, location_refused, edge_refused, bytes_left, entered_twice, all_distinct}
+use mathlib.Core.Path.{◌≡◌}
+use Prim.Native.Nat.{◌-◌, ◌≤◌}
+use Rattle.sheet.specs.Records.{record_at, location_at}
+use Rattle.sheet.specs.Questions.{first_of}
+use Rattle.sheet.specs.declared.fields.Kind.TheVariants.{EdgeRecord}
+use Rattle.sheet.proofs.CodeLaws.{of_location, of_edge}
 use Rattle.reader.proofs.questions.records_refusal.Given as goal
 
 abbrev pub invariant-loop-i : goal.invariant-loop-i

@@ -1,12 +1,9 @@
 -- The bounds passed are above 0.
-use mathlib.Core.Path.{◌≡◌}
-use mathlib.Core.Bool.{true}
-use Prim.Native.Nat.{◌-◌, ◌≤◌}
 use borrow.Author.Tests.{lt-ltb, le-ltb}
 use native.Mathlib.Omega.{arith}
 use lib.Dec.{ltb}
 use Rattle.sheet.specs.Records.{bound_at}
-use Rattle.sheet.specs.Questions.{each, start_refusal}
+use Rattle.sheet.specs.Questions.{start_refusal}
 use Rattle.sheet.proofs.QuestionLaws.{each_none, each_more, answer_no, answer_yes}
 use Rattle.std.proofs.Common.{rules}
 use Rattle.reader.proofs.questions.start_refusal.Goals as goal

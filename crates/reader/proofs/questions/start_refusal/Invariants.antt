@@ -2,12 +2,9 @@
 use mathlib.Core.Path.{◌≡◌}
 use mathlib.Core.Bool.{true}
 use Prim.Native.Nat.{◌-◌, ◌≤◌}
-use borrow.Author.Tests.{lt-ltb, le-ltb}
-use native.Mathlib.Omega.{arith}
 use lib.Dec.{ltb}
 use Rattle.sheet.specs.Records.{bound_at}
-use Rattle.sheet.specs.Questions.{each, start_refusal}
-use Rattle.sheet.proofs.QuestionLaws.{each_none, each_more, answer_no, answer_yes}
+use Rattle.sheet.specs.Questions.{each}
 use Rattle.reader.proofs.questions.start_refusal.Given as goal
 
 abbrev pub invariant-loop-j : goal.invariant-loop-j

@@ -7,7 +7,6 @@ use Rattle.sheet.specs.Bytes.{byte_at}
 use mathlib.Core.Option.{get_or}
 use native.Mathlib.Omega.{arith}
 use Rattle.sheet.proofs.RecordLaws.{absent, there, value_byte}
-use Rattle.std.proofs.Common.{rules}
 use Rattle.reader.proofs.records.byte_field.Goals as goal
 
 pub returns-then-bit-eq0 : goal.returns-then-bit-eq0

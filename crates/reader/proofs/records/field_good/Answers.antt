@@ -7,7 +7,6 @@ use Rattle.sheet.specs.Records.{value_at}
 use native.Mathlib.Omega.{arith}
 use Rattle.sheet.proofs.RecordLaws.{place_bound}
 use Rattle.sheet.proofs.CodeLaws.{no_field, field_is}
-use Rattle.std.proofs.Common.{rules}
 use Rattle.reader.proofs.records.field_good.Goals as goal
 
 pub returns-then-bit-eq0 : goal.returns-then-bit-eq0

@@ -6,7 +6,6 @@ use native.Mathlib.Omega.{arith}
 use Rattle.sheet.specs.Records.{field_place}
 use Rattle.sheet.proofs.MapLaws.{place_le}
 use Rattle.sheet.proofs.RecordLaws.{head_le}
-use Rattle.std.proofs.Common.{rules}
 use Rattle.reader.proofs.records.field_place.Goals as goal
 
 pub overflow_add-result-2 : goal.overflow_add-result-2

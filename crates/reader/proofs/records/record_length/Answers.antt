@@ -6,9 +6,7 @@ use native.Mathlib.Omega.{arith}
 use Rattle.sheet.specs.Records.{record_length}
 use Rattle.sheet.proofs.MapLaws.{place_le}
 use Rattle.sheet.proofs.RecordLaws.{head_le}
-use Rattle.std.proofs.Common.{rules}
 use Rattle.reader.proofs.records.record_length.Goals as goal
-
 
 pub overflow_add-result : goal.overflow_add-result
 overflow_add-result c =

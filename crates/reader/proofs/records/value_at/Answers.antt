@@ -1,7 +1,6 @@
 -- A price is a word, another field a byte.
 use mathlib.Core.Path.{sym, ◌∙◌}
 use Rattle.sheet.proofs.RecordLaws.{value_word, value_byte}
-use Rattle.std.proofs.Common.{rules}
 use Rattle.reader.proofs.records.value_at.Goals as goal
 
 pub returns-then-b-lt2 : goal.returns-then-b-lt2

@@ -1,15 +1,12 @@
 -- The guards of the clocks passed hold.
-use borrow.Author.Tests.{not-true, not-false}
 use lib.ListN.{get_or, take}
-use mathlib.Core.Path.{◌≡◌, sym}
+use mathlib.Core.Path.{◌≡◌}
 use mathlib.Core.Bool.{Bool, true}
 use mathlib.Core.List.{List, zip_with}
 use Prim.Native.Nat.{ℕ, ◌-◌, ◌≤◌}
-use native.Mathlib.Omega.{arith}
 use Rattle.automaton.specs.Tests.{every}
 use Rattle.automaton.specs.Bounds.{interval}
-use Rattle.region.specs.Arrays.{guard_holds, guards_in}
-use Rattle.region.proofs.ClockLaws.{every_none, every_all, clock_more, clock_fails}
+use Rattle.region.specs.Arrays.{guard_holds}
 use Rattle.region.proofs.bounds.guards_hold.Given as goal
 
 -- what is asked of a clock, by its number and its interval

@@ -1,13 +1,8 @@
 -- The clocks passed lie within their upper bytes.
-use borrow.Author.Tests.{not-true, not-false}
-use lib.ListN.{get_or, take}
-use mathlib.Core.Path.{◌≡◌, sym}
-use mathlib.Core.Bool.{Bool, true}
-use mathlib.Core.List.{List, zip_with}
-use Prim.Native.Nat.{ℕ, ◌-◌, ◌≤◌}
+use mathlib.Core.Path.{sym}
+use mathlib.Core.List.{zip_with}
 use native.Mathlib.Omega.{arith}
-use Rattle.automaton.specs.Tests.{every}
-use Rattle.automaton.specs.Bounds.{interval, upper_holds}
+use Rattle.automaton.specs.Bounds.{interval}
 use Rattle.region.specs.Arrays.{bounds_in}
 use Rattle.region.proofs.ClockLaws.{every_none, every_all, clock_more, clock_fails}
 use Rattle.std.proofs.Common.{rules}
@@ -25,12 +20,11 @@ returns-then-not-upper_holds c =
     c.args.clocks (omega arith) c.if-not-upper_holds.true
 
 pub loop-j-preserved : goal.loop-j-preserved
-loop-j-preserved c =
-    (
-      search rules,
-      clock_more (asks c.args.upper) 4 c.args.region.whole c.args.region.class (search rules) (search rules) c.loop-j.j (omega arith) c.interval_of.ensures c.upper_holds.ensures
-          c.loop-j.invariant.1 c.if-not-upper_holds.false,
-    )
+loop-j-preserved c = (
+  search rules,
+  clock_more (asks c.args.upper) 4 c.args.region.whole c.args.region.class (search rules) (search rules) c.loop-j.j (omega arith) c.interval_of.ensures c.upper_holds.ensures
+      c.loop-j.invariant.1 c.if-not-upper_holds.false,
+)
 
 pub returns : goal.returns
 unfolding bounds_in

@@ -1,15 +1,11 @@
 -- The clocks passed lie within their upper bytes.
-use borrow.Author.Tests.{not-true, not-false}
 use lib.ListN.{get_or, take}
-use mathlib.Core.Path.{◌≡◌, sym}
+use mathlib.Core.Path.{◌≡◌}
 use mathlib.Core.Bool.{Bool, true}
 use mathlib.Core.List.{List, zip_with}
 use Prim.Native.Nat.{ℕ, ◌-◌, ◌≤◌}
-use native.Mathlib.Omega.{arith}
 use Rattle.automaton.specs.Tests.{every}
 use Rattle.automaton.specs.Bounds.{interval, upper_holds}
-use Rattle.region.specs.Arrays.{bounds_in}
-use Rattle.region.proofs.ClockLaws.{every_none, every_all, clock_more, clock_fails}
 use Rattle.region.proofs.bounds.inside.Given as goal
 
 -- what is asked of a clock, by its number and its interval

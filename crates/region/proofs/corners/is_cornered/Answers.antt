@@ -1,8 +1,6 @@
 -- The largest class is g, and of the values 1 to g as many occur.
 use native.Mathlib.Omega.{arith}
 use Rattle.region.proofs.ArrayLaws.{largest_below}
-use Rattle.region.proofs.QuestionLaws.{unused_rank, used_ranks}
-use Rattle.std.proofs.Common.{rules}
 use Rattle.region.proofs.corners.is_cornered.Goals as goal
 
 pub rank_of-requires : goal.rank_of-requires

@@ -1,9 +1,7 @@
 -- The parts of question 15, in turn.
 use mathlib.Core.Path.{sym, ◌∙◌}
-use borrow.Author.Tests.{not-true, not-false}
 use Rattle.region.proofs.NodeLaws.{class_of}
 use Rattle.region.proofs.QuestionLaws.{other_number, no_corner, there}
-use Rattle.std.proofs.Common.{rules}
 use Rattle.region.proofs.corners.is_number.Goals as goal
 
 pub returns-then-pack-number : goal.returns-then-pack-number

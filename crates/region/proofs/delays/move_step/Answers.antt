@@ -2,7 +2,6 @@
 use mathlib.Core.Path.{sym, ◌∙◌}
 use Rattle.region.proofs.NodeLaws.{corner_of, class_of, whole_of}
 use Rattle.region.proofs.DelayLaws.{risen, carried, stays}
-use Rattle.std.proofs.Common.{rules}
 use Rattle.region.proofs.delays.move_step.Goals as goal
 
 pub after_rise-requires : goal.after_rise-requires

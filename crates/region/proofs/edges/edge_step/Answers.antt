@@ -1,11 +1,6 @@
 -- By the edition.
-use mathlib.Core.Path.{sym, ap, ◌∙◌}
-use Prim.Native.Nat.{ℕ}
 use borrow.Author.Tests.{ne_eqb}
-use Rattle.nodes.specs.Numbers.{layout_at, step_by}
 use Rattle.nodes.specs.Decoded.{alone}
-use Rattle.region.specs.Answers.{answered}
-use Rattle.std.proofs.Common.{rules}
 use Rattle.region.proofs.edges.edge_step.Goals as goal
 
 pub returns : goal.returns

@@ -4,7 +4,6 @@ use mathlib.Core.Bool.{Bool, cond}
 use borrow.Author.Tests.{le-ltb}
 use Rattle.nodes.specs.Numbers.{first_layout, class_at, whole_at, bits_of, list_from, node_of}
 use Rattle.region.proofs.ArrayLaws.{each_four, clock_parts}
-use Rattle.std.proofs.Common.{rules}
 use Rattle.region.proofs.numbers.unpack_first.Goals as goal
 
 pub returns : goal.returns

@@ -2,7 +2,6 @@
 use mathlib.Core.Path.{◌∙◌}
 use Rattle.nodes.specs.Numbers.{second_layout, class_at, whole_at, bits_of, list_from, node_of}
 use Rattle.region.proofs.ArrayLaws.{each_four, clock_parts}
-use Rattle.std.proofs.Common.{rules}
 use Rattle.region.proofs.numbers.unpack_second.Goals as goal
 
 pub returns : goal.returns

@@ -1,9 +1,5 @@
 -- A part above the bits that are there is a sum.
-use native.Mathlib.Omega.{arith}
-use lib.Pow.{pow_pos}
-use Rattle.sheet.proofs.MapLaws.{one_shl}
 use Rattle.region.proofs.BitLaws.{part_above}
-use Rattle.std.proofs.Common.{rules}
 use Rattle.region.proofs.numbers.with_part.Goals as goal
 
 pub returns : goal.returns

@@ -1,14 +1,9 @@
 -- Entry by entry.
-use mathlib.Core.Path.{◌≡◌, refl, sym, ap, ap₂, ◌∙◌}
-use mathlib.Core.List.{List}
-use Prim.Native.Nat.{ℕ, ◌-◌, ◌≤◌}
-use native.Mathlib.Omega.{arith}
-use lib.ListN.{length, get_or, set, get_or-map}
-use Rattle.automaton.specs.Ranks.{rank, close_up}
-use Rattle.automaton.proofs.Ranks.{length_close}
+use mathlib.Core.Path.{◌≡◌}
+use Prim.Native.Nat.{◌-◌, ◌≤◌}
+use lib.ListN.{get_or}
+use Rattle.automaton.specs.Ranks.{close_up}
 use Rattle.sheet.specs.Decoded.{filled}
-use Rattle.sheet.proofs.DecodeLaws.{filled_more, filled_whole}
-use Rattle.region.proofs.DigitLaws.{rank_at}
 use Rattle.region.proofs.ranks.close_up.Given as goal
 
 abbrev pub invariant-loop-j : goal.invariant-loop-j

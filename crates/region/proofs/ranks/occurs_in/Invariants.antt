@@ -1,10 +1,9 @@
 -- It is not among the clocks passed.
-use mathlib.Core.Path.{◌≡◌, refl, sym}
+use mathlib.Core.Path.{◌≡◌}
 use mathlib.Core.Bool.{false}
 use Prim.Native.Nat.{◌-◌, ◌≤◌}
 use lib.ListN.{take}
 use Rattle.automaton.specs.Tests.{occurs}
-use Rattle.region.proofs.ClockLaws.{occurs_found, occurs_more, occurs_all}
 use Rattle.region.proofs.ranks.occurs_in.Given as goal
 
 abbrev pub invariant-loop-j : goal.invariant-loop-j

@@ -1,7 +1,6 @@
 -- The digit of t.
 use mathlib.Core.Path.{◌∙◌}
 use Rattle.region.proofs.DigitLaws.{rank_at}
-use Rattle.std.proofs.Common.{rules}
 use Rattle.region.proofs.ranks.rank_of.Goals as goal
 
 pub returns : goal.returns

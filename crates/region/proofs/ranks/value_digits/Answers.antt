@@ -1,12 +1,10 @@
 -- Digit by digit.
-use mathlib.Core.Path.{◌≡◌, ap, ap₂, ◌∙◌}
-use Prim.Native.Nat.{◌*◌, ◌-◌, ◌≤◌}
+use mathlib.Core.Path.{ap₂, ◌∙◌}
+use Prim.Native.Nat.{◌*◌}
 use native.Mathlib.Omega.{arith}
 use lib.Bits.{bit_or}
-use lib.ListN.{length, get_or, take}
-use lib.Seq.{take_all}
+use lib.ListN.{get_or}
 use Rattle.sheet.proofs.MapLaws.{one_shl}
-use Rattle.region.specs.Arrays.{value_digits}
 use Rattle.region.proofs.DigitLaws.{values_none, values_more}
 use Rattle.std.proofs.Common.{rules}
 use Rattle.region.proofs.ranks.value_digits.Goals as goal

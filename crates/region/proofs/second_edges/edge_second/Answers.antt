@@ -1,6 +1,5 @@
 -- The three tests of an edge, in turn.
 use mathlib.Core.Path.{sym, ◌∙◌}
-use borrow.Author.Tests.{not-true, not-false}
 use mir.Syntax.{w16}
 use mir.ValLaws.{to_z-of_z}
 use Rattle.region.proofs.NodeLaws.{corner_of, class_of}
