@@ -75,7 +75,7 @@ pub(crate) fn decimal(s: &[u8]) -> u64 {
     let mut x: u64 = 0;
     let mut i: usize = 0;
     while i < s.len() {
-        x = std::num::wrapping_add_u64(10 * (x % 1844674407370955162), digit(s[i]) as u64);
+        x = (10 * (x % 1844674407370955162)).wrapping_add(digit(s[i]) as u64);
         i += 1;
     }
     x
