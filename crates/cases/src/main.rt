@@ -42,10 +42,10 @@ fn step_case(rt: &impl Print, line: &[u8]) -> io::Result<()> {
 }
 
 fn run(rt: &impl Print, line: &[u8]) -> io::Result<()> {
-    if text::begins(line, b"check ") {
+    if line.starts_with(b"check ") {
         return check_case(rt, line);
     }
-    if text::begins(line, b"step ") {
+    if line.starts_with(b"step ") {
         return step_case(rt, line);
     }
     unknown(rt)
