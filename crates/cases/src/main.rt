@@ -3,6 +3,8 @@
 // `step SHEET NODE CODE`: refusal, node, cost, reward and units of a single step.
 #![tactic(auto)]
 
+ghost use Rattle.std.specs.Prelude.{◌≡◌, length};
+
 mod show;
 mod text;
 
@@ -61,8 +63,15 @@ fn each_line(rt: &impl Print, s: &[u8]) -> io::Result<()> {
     Ok(())
 }
 
+// For any N, so that no proof goes through a list of as many entries as the input has room for.
+fn zeros<const N: usize>() -> [u8; N]
+    ensures { length result ≡ N }
+{
+    [0; N]
+}
+
 fn main(rt: HostRuntime) -> io::Result<()> {
-    let mut buffer = [0u8; 524288];
+    let mut buffer: [u8; 524288] = zeros();
     let n = input::read_full(&mut rt.reader(), &mut buffer)?;
     each_line(&rt, &buffer[..n])
 }
