@@ -1,20 +1,6 @@
 // Parts of a line.
 ghost use Rattle.std.specs.Prelude.{◌≤◌, length};
 
-pub(crate) fn begins(s: &[u8], word: &[u8]) -> bool {
-    let mut i: usize = 0;
-    while i < word.len() {
-        if s.len() <= i {
-            return false;
-        }
-        if s[i] != word[i] {
-            return false;
-        }
-        i += 1;
-    }
-    true
-}
-
 // The value of a hexadecimal digit, 16 for any other byte.
 fn digit(b: u8) -> u8
     ensures { result ≤ 16 }
@@ -39,8 +25,7 @@ pub(crate) fn unhex(s: &[u8], from: usize, out: &mut [u8]) -> usize
     ensures within { result ≤ length out.new }
     ensures in_room { result ≤ 4096 }
 {
-    let mut n: usize = 0;
-    while n < out.len() {
+    for n in 0..out.len() {
         let high = digit_at(s, from + 2 * n);
         let low = digit_at(s, from + 2 * n + 1);
         if 16 <= high {
@@ -50,9 +35,8 @@ pub(crate) fn unhex(s: &[u8], from: usize, out: &mut [u8]) -> usize
             return n;
         }
         out[n] = 16 * high + low;
-        n += 1;
     }
-    n
+    out.len()
 }
 
 // The first place from `from` on where the byte c stands, or the end.
@@ -60,23 +44,19 @@ pub(crate) fn find(s: &[u8], from: usize, c: u8) -> usize
     requires { from ≤ length s.now }
     ensures { (from ≤ result) × (result ≤ length s.now) }
 {
-    let mut i = from;
-    while i < s.len() {
+    for i in from..s.len() {
         if s[i] == c {
             return i;
         }
-        i += 1;
     }
-    i
+    s.len()
 }
 
 // A decimal number of 64 bits; one with more gives some other number.
 pub(crate) fn decimal(s: &[u8]) -> u64 {
     let mut x: u64 = 0;
-    let mut i: usize = 0;
-    while i < s.len() {
-        x = std::num::wrapping_add_u64(10 * (x % 1844674407370955162), digit(s[i]) as u64);
-        i += 1;
+    for b in s {
+        x = (10 * (x % 1844674407370955162)).wrapping_add(digit(*b) as u64);
     }
     x
 }

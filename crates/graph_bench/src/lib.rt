@@ -1,4 +1,6 @@
 // `negative_cycle` for C, for the measurements of bench/graph.
+#![tactic(auto)]
+
 ghost use Rattle.graph.specs.Answer.{SearchAnswered};
 ghost use Rattle.graph_bench.specs.Number.{search_answer};
 

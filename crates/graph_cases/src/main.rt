@@ -1,11 +1,13 @@
 // Small graphs with known answers, a line for each: the answer, then the two buffers, whose entries are 7 where nothing was written.
-use graph::Coefficients;
+#![tactic(auto)]
 
 mod show;
 
-use libc::STDOUT_FILENO;
+use graph::Coefficients;
+use std::io;
 
 fn lent(
+    rt: &impl Print,
     name: &[u8],
     from: &[u16],
     to: &[u16],
@@ -15,13 +17,13 @@ fn lent(
     nodes: usize,
     potential: &mut [i64],
     cycle: &mut [usize],
-) {
-    io::write_all(STDOUT_FILENO, name);
+) -> io::Result<()> {
+    rt.write_all(name)?;
     let a = graph::negative_cycle(from, to, cost, reward, k, nodes, potential, cycle);
-    show::answer(a);
-    show::potentials(potential);
-    show::arcs(cycle);
-    io::write_all(STDOUT_FILENO, b"\n");
+    show::answer(rt, a)?;
+    show::potentials(rt, potential)?;
+    show::arcs(rt, cycle)?;
+    println!(rt)
 }
 
 // An entry of a row, and the same as a source, a target or a reward.
@@ -41,26 +43,28 @@ fn natural(rows: &[i16], i: usize) -> u16 {
 }
 
 // At most five arcs, a row of source, target, cost and reward for each, and buffers of five entries.
-fn weighed(name: &[u8], k: Coefficients, nodes: usize, rows: &[i16]) {
+fn weighed(
+    rt: &impl Print,
+    name: &[u8],
+    k: Coefficients,
+    nodes: usize,
+    rows: &[i16],
+) -> io::Result<()> {
     let mut from = [0u16; 5];
     let mut to = [0u16; 5];
     let mut cost = [0i16; 5];
     let mut reward = [0u16; 5];
     let mut potential = [7i64; 5];
     let mut cycle = [7usize; 5];
-    let mut m: usize = 0;
-    while m < rows.len() / 4 {
-        if m == 5 {
-            break;
-        }
-        from[m] = natural(rows, 4 * m);
-        to[m] = natural(rows, 4 * m + 1);
-        let x = entry(rows, 4 * m + 2);
-        cost[m] = x;
-        reward[m] = natural(rows, 4 * m + 3);
-        m += 1;
+    let m = (rows.len() / 4).min(5);
+    for i in 0..m {
+        from[i] = natural(rows, 4 * i);
+        to[i] = natural(rows, 4 * i + 1);
+        cost[i] = entry(rows, 4 * i + 2);
+        reward[i] = natural(rows, 4 * i + 3);
     }
     lent(
+        rt,
         name,
         &from[..m],
         &to[..m],
@@ -70,95 +74,105 @@ fn weighed(name: &[u8], k: Coefficients, nodes: usize, rows: &[i16]) {
         nodes,
         &mut potential,
         &mut cycle,
-    );
+    )
 }
 
 // Each arc weighs its cost.
-fn costed(name: &[u8], nodes: usize, rows: &[i16]) {
-    weighed(name, Coefficients { a: 1, b: 0, c: 0 }, nodes, rows);
+fn costed(rt: &impl Print, name: &[u8], nodes: usize, rows: &[i16]) -> io::Result<()> {
+    weighed(rt, name, Coefficients { a: 1, b: 0, c: 0 }, nodes, rows)
 }
 
-fn cycles() {
-    costed(b"a cycle of weight 0", 2, &[0, 1, 5, 0, 1, 0, -5, 0]);
-    costed(b"a cycle of weight -1", 2, &[0, 1, 5, 0, 1, 0, -6, 0]);
+fn cycles(rt: &impl Print) -> io::Result<()> {
+    costed(rt, b"a cycle of weight 0", 2, &[0, 1, 5, 0, 1, 0, -5, 0])?;
+    costed(rt, b"a cycle of weight -1", 2, &[0, 1, 5, 0, 1, 0, -6, 0])?;
     costed(
+        rt,
         b"two cycles, the second negative",
         3,
         &[0, 1, 1, 0, 1, 0, 1, 0, 1, 2, 3, 0, 2, 1, -4, 0],
-    );
+    )?;
     costed(
+        rt,
         b"a negative cycle far from the start",
         5,
         &[0, 1, 9, 0, 1, 2, 9, 0, 2, 3, 9, 0, 3, 4, 2, 0, 4, 3, -3, 0],
-    );
+    )?;
     costed(
+        rt,
         b"a negative cycle that is not reached",
         4,
         &[0, 1, 4, 0, 2, 3, -1, 0, 3, 2, -1, 0],
-    );
+    )
 }
 
-fn loops() {
-    costed(b"a loop of weight -1", 2, &[0, 1, 4, 0, 1, 1, -1, 0]);
-    costed(b"a loop of weight 0", 2, &[0, 1, 4, 0, 1, 1, 0, 0]);
-    costed(b"a loop at the start", 1, &[0, 0, -1, 0]);
+fn loops(rt: &impl Print) -> io::Result<()> {
+    costed(rt, b"a loop of weight -1", 2, &[0, 1, 4, 0, 1, 1, -1, 0])?;
+    costed(rt, b"a loop of weight 0", 2, &[0, 1, 4, 0, 1, 1, 0, 0])?;
+    costed(rt, b"a loop at the start", 1, &[0, 0, -1, 0])?;
     costed(
+        rt,
         b"arcs side by side",
         2,
         &[0, 1, 3, 0, 0, 1, 1, 0, 1, 0, -2, 0],
-    );
-    costed(b"no arcs", 3, &[]);
-    costed(b"a path", 3, &[0, 1, 5, 0, 1, 2, -9, 0, 0, 2, -3, 0]);
+    )?;
+    costed(rt, b"no arcs", 3, &[])?;
+    costed(rt, b"a path", 3, &[0, 1, 5, 0, 1, 2, -9, 0, 0, 2, -3, 0])
 }
 
 // Weights by the number of arcs, by rewards alone, and at a ratio.
-fn weights() {
+fn weights(rt: &impl Print) -> io::Result<()> {
     let by_arcs = Coefficients { a: 0, b: 0, c: -1 };
     let by_reward = Coefficients { a: 0, b: -1, c: 0 };
     weighed(
+        rt,
         b"some cycle",
         by_arcs,
         3,
         &[0, 1, 1, 0, 1, 2, 2, 4, 2, 0, 3, 0],
-    );
-    weighed(b"no cycle", by_arcs, 3, &[0, 1, 1, 0, 1, 2, 2, 4]);
+    )?;
+    weighed(rt, b"no cycle", by_arcs, 3, &[0, 1, 1, 0, 1, 2, 2, 4])?;
     weighed(
+        rt,
         b"a cycle that earns",
         by_reward,
         2,
         &[0, 1, 1, 0, 1, 0, 2, 4],
-    );
+    )?;
     weighed(
+        rt,
         b"cycles without reward",
         by_reward,
         2,
         &[0, 1, 1, 0, 1, 0, -2, 0, 1, 1, -3, 0],
-    );
+    )?;
     weighed(
+        rt,
         b"no cycle below -3/2",
         Coefficients { a: 2, b: 3, c: 0 },
         2,
         &[0, 1, -4, 2, 1, 0, 1, 0],
-    );
+    )?;
     weighed(
+        rt,
         b"a cycle below -1/1",
         Coefficients { a: 1, b: 1, c: 0 },
         2,
         &[0, 1, -4, 2, 1, 0, 1, 0],
-    );
+    )
 }
 
-fn ranges() {
-    costed(b"no nodes", 0, &[]);
-    costed(b"a source out of range", 2, &[0, 0, 1, 0, 2, 0, 1, 0]);
-    costed(b"a target out of range", 2, &[0, 0, 1, 0, 0, 2, 1, 0]);
-    costed(b"a cost of 10001", 1, &[0, 0, 10001, 0]);
-    costed(b"a cost of -10001", 1, &[0, 0, -10001, 0]);
-    costed(b"a reward of 10001", 1, &[0, 0, 1, 10001]);
+fn ranges(rt: &impl Print) -> io::Result<()> {
+    costed(rt, b"no nodes", 0, &[])?;
+    costed(rt, b"a source out of range", 2, &[0, 0, 1, 0, 2, 0, 1, 0])?;
+    costed(rt, b"a target out of range", 2, &[0, 0, 1, 0, 0, 2, 1, 0])?;
+    costed(rt, b"a cost of 10001", 1, &[0, 0, 10001, 0])?;
+    costed(rt, b"a cost of -10001", 1, &[0, 0, -10001, 0])?;
+    costed(rt, b"a reward of 10001", 1, &[0, 0, 1, 10001])
 }
 
-fn coefficients() {
+fn coefficients(rt: &impl Print) -> io::Result<()> {
     weighed(
+        rt,
         b"a coefficient of 20480001",
         Coefficients {
             a: 20480001,
@@ -167,8 +181,9 @@ fn coefficients() {
         },
         1,
         &[0, 0, 1, 1],
-    );
+    )?;
     weighed(
+        rt,
         b"a coefficient of -20480002",
         Coefficients {
             a: 0,
@@ -177,28 +192,31 @@ fn coefficients() {
         },
         1,
         &[0, 0, 1, 1],
-    );
+    )?;
     weighed(
+        rt,
         b"a coefficient of 2",
         Coefficients { a: 0, b: 0, c: 2 },
         1,
         &[0, 0, 1, 1],
-    );
+    )?;
     let most = Coefficients {
         a: 20480000,
         b: -20480001,
         c: -1,
     };
     weighed(
+        rt,
         b"the largest numbers",
         most,
         2,
         &[0, 1, -10000, 10000, 0, 0, 10000, 10000],
-    );
+    )
 }
 
 // Loops of weight 0 at the start, as many as each slice has entries, and buffers of the given lengths.
 fn sized(
+    rt: &impl Print,
     name: &[u8],
     nodes: usize,
     f: usize,
@@ -207,7 +225,7 @@ fn sized(
     r: usize,
     potentials: usize,
     arcs: usize,
-) {
+) -> io::Result<()> {
     let from = [0u16; 69633];
     let to = [0u16; 69633];
     let cost = [0i16; 69633];
@@ -215,24 +233,25 @@ fn sized(
     let mut potential = [7i64; 2049];
     let mut cycle = [7usize; 2049];
     if 69633 < f {
-        return;
+        return Ok(());
     }
     if 69633 < t {
-        return;
+        return Ok(());
     }
     if 69633 < c {
-        return;
+        return Ok(());
     }
     if 69633 < r {
-        return;
+        return Ok(());
     }
     if 2049 < potentials {
-        return;
+        return Ok(());
     }
     if 2049 < arcs {
-        return;
+        return Ok(());
     }
     lent(
+        rt,
         name,
         &from[..f],
         &to[..t],
@@ -242,27 +261,27 @@ fn sized(
         nodes,
         &mut potential[..potentials],
         &mut cycle[..arcs],
-    );
+    )
 }
 
-fn lengths() {
-    sized(b"fewer sources", 1, 1, 2, 2, 2, 5, 5);
-    sized(b"fewer targets", 1, 2, 1, 2, 2, 5, 5);
-    sized(b"fewer costs", 1, 2, 2, 1, 2, 5, 5);
-    sized(b"fewer rewards", 1, 2, 2, 2, 1, 5, 5);
-    sized(b"too few potentials", 5, 1, 1, 1, 1, 4, 5);
-    sized(b"room for too few arcs", 5, 1, 1, 1, 1, 5, 4);
-    sized(b"2048 nodes", 2048, 1, 1, 1, 1, 2048, 2048);
-    sized(b"2049 nodes", 2049, 1, 1, 1, 1, 2049, 2049);
-    sized(b"69632 arcs", 1, 69632, 69632, 69632, 69632, 1, 1);
-    sized(b"69633 arcs", 1, 69633, 69633, 69633, 69633, 1, 1);
+fn lengths(rt: &impl Print) -> io::Result<()> {
+    sized(rt, b"fewer sources", 1, 1, 2, 2, 2, 5, 5)?;
+    sized(rt, b"fewer targets", 1, 2, 1, 2, 2, 5, 5)?;
+    sized(rt, b"fewer costs", 1, 2, 2, 1, 2, 5, 5)?;
+    sized(rt, b"fewer rewards", 1, 2, 2, 2, 1, 5, 5)?;
+    sized(rt, b"too few potentials", 5, 1, 1, 1, 1, 4, 5)?;
+    sized(rt, b"room for too few arcs", 5, 1, 1, 1, 1, 5, 4)?;
+    sized(rt, b"2048 nodes", 2048, 1, 1, 1, 1, 2048, 2048)?;
+    sized(rt, b"2049 nodes", 2049, 1, 1, 1, 1, 2049, 2049)?;
+    sized(rt, b"69632 arcs", 1, 69632, 69632, 69632, 69632, 1, 1)?;
+    sized(rt, b"69633 arcs", 1, 69633, 69633, 69633, 69633, 1, 1)
 }
 
-fn main() {
-    cycles();
-    loops();
-    weights();
-    ranges();
-    coefficients();
-    lengths();
+fn main(rt: HostRuntime) -> io::Result<()> {
+    cycles(&rt)?;
+    loops(&rt)?;
+    weights(&rt)?;
+    ranges(&rt)?;
+    coefficients(&rt)?;
+    lengths(&rt)
 }

@@ -1,58 +1,36 @@
 // Answers and buffers, printed.
 use graph::Answer;
-use libc::STDOUT_FILENO;
+use std::io;
 
 // A number, or "none" for a node that is not reached.
-fn number(z: i64) {
+fn number(rt: &impl Print, z: i64) -> io::Result<()> {
     if z == 1152921504606846976 {
-        io::write_all(STDOUT_FILENO, b" none");
-        return;
+        return print!(rt; " none");
     }
-    io::write_all(STDOUT_FILENO, b" ");
-    if z < 0 {
-        io::write_all(STDOUT_FILENO, b"-");
-    }
-    io::print_decimal(STDOUT_FILENO, signs::magnitude(z));
+    print!(rt; " {z}")
 }
 
 // The first entries of a buffer.
-pub(crate) fn potentials(s: &[i64]) {
-    io::write_all(STDOUT_FILENO, b" |");
-    let mut i = 0;
-    while i < s.len() {
-        if i == 5 {
-            return;
-        }
-        let z = s[i];
-        number(z);
-        i += 1;
+pub(crate) fn potentials(rt: &impl Print, s: &[i64]) -> io::Result<()> {
+    print!(rt; " |")?;
+    for z in s.iter().take(5) {
+        number(rt, *z)?;
     }
+    Ok(())
 }
 
-pub(crate) fn arcs(s: &[usize]) {
-    io::write_all(STDOUT_FILENO, b" |");
-    let mut i = 0;
-    while i < s.len() {
-        if i == 5 {
-            return;
-        }
-        io::write_all(STDOUT_FILENO, b" ");
-        io::print_decimal(STDOUT_FILENO, s[i] as u64);
-        i += 1;
+pub(crate) fn arcs(rt: &impl Print, s: &[usize]) -> io::Result<()> {
+    print!(rt; " |")?;
+    for arc in s.iter().take(5) {
+        print!(rt; " {arc}")?;
     }
+    Ok(())
 }
 
-pub(crate) fn answer(a: Answer) {
+pub(crate) fn answer(rt: &impl Print, a: Answer) -> io::Result<()> {
     match a {
-        Answer::Malformed => {
-            io::write_all(STDOUT_FILENO, b": malformed");
-        }
-        Answer::Cycle(arcs) => {
-            io::write_all(STDOUT_FILENO, b": cycle ");
-            io::print_decimal(STDOUT_FILENO, arcs as u64);
-        }
-        Answer::Potentials => {
-            io::write_all(STDOUT_FILENO, b": potentials");
-        }
+        Answer::Malformed => print!(rt; ": malformed"),
+        Answer::Cycle(arcs) => print!(rt; ": cycle {arcs}"),
+        Answer::Potentials => print!(rt; ": potentials"),
     }
 }

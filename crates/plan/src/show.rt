@@ -1,35 +1,16 @@
 // An answer, as it is printed.
-use libc::STDOUT_FILENO;
 use planner::Answer;
-
-fn print(text: &[u8]) {
-    io::write_all(STDOUT_FILENO, text);
-}
-
-fn number(x: u64) {
-    io::print_decimal(STDOUT_FILENO, x);
-}
+use std::io;
 
 // The ratio and the number of nodes.
-fn accepted(p: i64, q: u64, n: u64) {
-    print(b"ratio ");
-    if p < 0 {
-        print(b"-");
-    }
-    number(signs::magnitude(p));
-    print(b" ");
-    number(q);
-    print(b"\nnodes ");
-    number(n);
-    print(b"\n");
+fn accepted(rt: &impl Print, p: i64, q: u64, n: u64) -> io::Result<()> {
+    println!(rt; "ratio {p} {q}")?;
+    println!(rt; "nodes {n}")
 }
 
-pub(crate) fn answer(answer: Answer) {
+pub(crate) fn answer(rt: &impl Print, answer: Answer) -> io::Result<()> {
     if answer.refusal == 0 {
-        accepted(answer.p, answer.q as u64, answer.n as u64);
-        return;
+        return accepted(rt, answer.p, answer.q as u64, answer.n as u64);
     }
-    print(b"refused ");
-    number(answer.refusal as u64);
-    print(b"\n");
+    println!(rt; "refused {}", answer.refusal)
 }

@@ -1,109 +1,133 @@
 // Work plans of Bench, of changes to it and of sheets with two clocks, four clocks or two locations: a line for each.
 // Bench's bytes: edition, L, K and E; the location's map, cost rate (two bytes) and bound; the edge's map (two bytes), source, target, cost and
 // reward (two bytes each), reset mask and lower byte.
+#![tactic(auto)]
+
 mod show;
 
-fn case(name: &[u8], sheet: &[u8]) {
+use std::io;
+
+fn case(rt: &impl Print, name: &[u8], sheet: &[u8]) -> io::Result<()> {
     let mut waits = [0u16; 2049];
     let mut edges = [0u16; 2049];
     let answer = work::work(sheet, &mut waits, &mut edges);
-    show::line(name, answer, &waits, &edges);
+    show::line(rt, name, answer, &waits, &edges)
 }
 
-fn accepted() {
+fn accepted(rt: &impl Print) -> io::Result<()> {
     case(
+        rt,
         b"as given",
         b"\x01\x01\x01\x01\x05\x01\x00\x05\x0F\x00\x00\x00\x05\x00\x02\x00\x01\x02",
-    );
+    )?;
     case(
+        rt,
         b"bound 19 with lower byte 18",
         b"\x01\x01\x01\x01\x05\x01\x00\x19\x0F\x00\x00\x00\x05\x00\x02\x00\x01\x18",
-    );
+    )?;
     case(
+        rt,
         b"a second edge equal but for reward 3",
         b"\x01\x01\x01\x02\x05\x01\x00\x05\x0F\x00\x00\x00\x05\x00\x02\x00\x01\x02\x0F\x00\x00\x00\x05\x00\x03\x00\x01\x02",
-    );
+    )?;
     case(
+        rt,
         b"upper guard 03",
         b"\x01\x01\x01\x01\x05\x01\x00\x05\x4F\x00\x00\x00\x05\x00\x02\x00\x01\x02\x03",
-    );
+    )?;
     case(
+        rt,
         b"two clocks, both reset",
         b"\x01\x01\x02\x01\x0D\x01\x00\x05\x05\x0F\x00\x00\x00\x05\x00\x02\x00\x03\x02",
-    );
+    )?;
     case(
+        rt,
         b"four clocks, all reset",
         b"\x02\x01\x04\x01\x3D\x01\x00\x05\x05\x05\x05\x0F\x00\x00\x00\x05\x00\x02\x00\x0F\x02",
-    );
+    )?;
     // 1 unit in location 0, 2 in location 1, each left by an edge that resets the clock
     case(
+        rt,
         b"two locations in turn",
         b"\x01\x02\x01\x02\x05\x01\x00\x05\x05\x02\x00\x07\x0C\x00\x00\x01\x01\x02\x0E\x00\x01\x00\x03\x00\x01\x04",
-    );
+    )?;
     // edge 1 leads to location 1 at clock 1, edge 0 from there back to it at clock 2: the lasso comes to its cycle in the middle of a wait
     case(
+        rt,
         b"a cycle that ends with a wait",
         b"\x01\x02\x01\x02\x04\x19\x05\x01\x00\x05\x0E\x00\x01\x01\x02\x00\x01\x04\x08\x00\x00\x01\x02",
-    );
+    )
 }
 
-fn strict() {
+fn strict(rt: &impl Print) -> io::Result<()> {
     case(
+        rt,
         b"bound 04",
         b"\x01\x01\x01\x01\x05\x01\x00\x04\x0F\x00\x00\x00\x05\x00\x02\x00\x01\x02",
-    );
+    )?;
     case(
+        rt,
         b"lower byte 03",
         b"\x01\x01\x01\x01\x05\x01\x00\x05\x0F\x00\x00\x00\x05\x00\x02\x00\x01\x03",
-    );
+    )?;
     case(
+        rt,
         b"upper guard 04",
         b"\x01\x01\x01\x01\x05\x01\x00\x05\x4F\x00\x00\x00\x05\x00\x02\x00\x01\x02\x04",
-    );
+    )?;
     case(
+        rt,
         b"two clocks, bound 04 of clock 1",
         b"\x01\x01\x02\x01\x0D\x01\x00\x05\x04\x0F\x00\x00\x00\x05\x00\x02\x00\x03\x02",
-    );
+    )?;
     case(
+        rt,
         b"four clocks, bound 04 of clock 3",
         b"\x02\x01\x04\x01\x3D\x01\x00\x05\x05\x05\x04\x0F\x00\x00\x00\x05\x00\x02\x00\x0F\x02",
-    );
+    )?;
     case(
+        rt,
         b"four clocks, lower byte 03 of clock 3",
         b"\x02\x01\x04\x01\x3D\x01\x00\x05\x05\x05\x05\x4F\x00\x00\x00\x05\x00\x02\x00\x0F\x02\x03",
-    );
+    )?;
     case(
+        rt,
         b"a second location with bound 04, which no edge enters",
         b"\x01\x02\x01\x01\x05\x01\x00\x05\x04\x04\x0F\x00\x00\x00\x05\x00\x02\x00\x01\x02",
-    );
+    )
 }
 
 // A bound is strict in each of them, and another question comes first.
-fn refused_before() {
+fn refused_before(rt: &impl Print) -> io::Result<()> {
     case(
+        rt,
         b"bound 04 and a byte more",
         b"\x01\x01\x01\x01\x05\x01\x00\x04\x0F\x00\x00\x00\x05\x00\x02\x00\x01\x02\x00",
-    );
+    )?;
     case(
+        rt,
         b"bound 04 and the edge entered twice",
         b"\x01\x01\x01\x02\x05\x01\x00\x04\x0F\x00\x00\x00\x05\x00\x02\x00\x01\x02\x0F\x00\x00\x00\x05\x00\x02\x00\x01\x02",
-    );
+    )?;
     case(
+        rt,
         b"bound 00",
         b"\x01\x01\x01\x01\x05\x01\x00\x00\x0F\x00\x00\x00\x05\x00\x02\x00\x01\x02",
-    );
+    )?;
     case(
+        rt,
         b"bound 02",
         b"\x01\x01\x01\x01\x05\x01\x00\x02\x0F\x00\x00\x00\x05\x00\x02\x00\x01\x02",
-    );
+    )?;
     case(
+        rt,
         b"bound 04 and a second edge without reward and cost FC FF",
         b"\x01\x01\x01\x02\x05\x01\x00\x04\x0F\x00\x00\x00\x05\x00\x02\x00\x01\x02\x0D\x00\x00\x00\xFC\xFF\x01\x02",
-    );
+    )
 }
 
-fn main() {
-    accepted();
-    strict();
-    refused_before();
+fn main(rt: HostRuntime) -> io::Result<()> {
+    accepted(&rt)?;
+    strict(&rt)?;
+    refused_before(&rt)
 }
