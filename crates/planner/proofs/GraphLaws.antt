@@ -15,7 +15,6 @@ use Rattle.walks.specs.Cycles.{EarningArcs, NoneEarns, IdleGainArcs}
 use Rattle.walks.proofs.Walks.{walk_arc}
 use Rattle.ratio.specs.Answer.{RatioFound, RatioAnswered}
 use Rattle.ratio.specs.declared.RatioAnswer.{RatioAnswer}
-use Rattle.ratio.specs.declared.RatioAnswer.TheVariants as RatioAnswer
 use Rattle.ratio.proofs.RatioAnswerLaws.{room, numbered_13, numbered_14}
 use Rattle.contract.specs.Plan.{Answer, refused_plan, Buffers, zeros, SameLengths, Passed, Judged, Planned}
 use Rattle.planner.specs.ContractTerms.{lent_buffers}

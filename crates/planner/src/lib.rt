@@ -1,4 +1,6 @@
 // The plan of a sheet: the least ratio of cost over reward, the reachable nodes with their potentials, and a lasso whose cycle has that ratio.
+#![tactic(auto)]
+
 ghost use Rattle.contract.specs.Plan.{Planned};
 ghost use Rattle.planner.specs.ContractTerms.{lent_buffers, answer_of};
 ghost use Rattle.planner.specs.PrivatePromises.{PlannedButForClearing};

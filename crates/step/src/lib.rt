@@ -1,4 +1,6 @@
 // One step of a sheet.
+#![tactic(auto)]
+
 ghost use Rattle.std.specs.Prelude.{◌≡◌, ◌≤◌, get_or};
 ghost use Rattle.nodes.specs.Numbers.{is_number, step_by};
 ghost use Rattle.nodes.specs.Decoded.{decoded_meaning, layout_in};

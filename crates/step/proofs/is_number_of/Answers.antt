@@ -3,7 +3,6 @@ use mathlib.Core.Path.{ap, ◌∙◌, subst}
 use Prim.Native.Nat.{ℕ, ◌≤◌, ◌<◌}
 use Rattle.nodes.specs.Decoded.{location_in}
 use Rattle.step.proofs.SheetLaws.{no_location, by_location}
-use Rattle.std.proofs.Common.{rules}
 use Rattle.step.proofs.is_number_of.Goals as goal
 
 pub returns-then-sheet-l : goal.returns-then-sheet-l

@@ -3,7 +3,6 @@ use mathlib.Core.Path.{ap, ◌∙◌}
 use Rattle.sheet.specs.declared.Sheet.{Sheet}
 use Rattle.step.specs.Step.{step_in}
 use Rattle.step.proofs.SheetLaws.{read_steps}
-use Rattle.std.proofs.Common.{rules}
 use Rattle.step.proofs.step.Goals as goal
 
 pub returns : goal.returns

@@ -4,7 +4,6 @@ use Prim.Native.Nat.{◌%◌}
 use native.Mathlib.Omega.{arith}
 use Rattle.nodes.specs.Decoded.{edge_in, location_in}
 use Rattle.stepper.proofs.RecordLaws.{answered_by}
-use Rattle.std.proofs.Common.{rules}
 use Rattle.step.proofs.step_from.Goals as goal
 
 pub returns : goal.returns

@@ -1,8 +1,6 @@
 -- The sheet's refusal, question 15, question 16.
 use mathlib.Core.Path.{sym, ◌∙◌}
-use borrow.Author.Tests.{not-true, not-false}
 use Rattle.step.proofs.SheetLaws.{step_refused, step_nowhere, step_answered}
-use Rattle.std.proofs.Common.{rules}
 use Rattle.step.proofs.step_in.Goals as goal
 
 pub returns-then-refusal-ne0 : goal.returns-then-refusal-ne0

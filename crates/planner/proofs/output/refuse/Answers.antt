@@ -2,7 +2,6 @@
 use mathlib.Core.Path.{◌∙◌}
 use lib.IntN.{pos}
 use Rattle.buffers.proofs.ClearedLaws.{cleared_whole}
-use Rattle.std.proofs.Common.{rules}
 use Rattle.planner.proofs.output.refuse.Goals as goal
 
 pub returns-clause-nodes_cleared : goal.returns-clause-nodes_cleared

@@ -1,9 +1,6 @@
 -- After i turns the first i entries are picked.
-use mathlib.Core.Path.{◌≡◌, refl, subst}
-use Prim.Native.Nat.{ℕ, ◌-◌, ◌≤◌}
-use native.Mathlib.Omega.{arith}
+use Prim.Native.Nat.{◌-◌, ◌≤◌}
 use Rattle.planner.specs.PrivatePromises.{Picked}
-use Rattle.planner.proofs.PickedLaws.{picked_none, picked_more}
 use Rattle.planner.proofs.output.write_codes.Given as goal
 
 abbrev pub invariant-loop-i : goal.invariant-loop-i
