@@ -1,5 +1,7 @@
 // The planner for programs in C and Rust, declared to them in bindings/. A slice crosses as a pointer and a count, a number to be written as a pointer.
 // Each function answers the refusal, and writes each of its numbers in every call; they are 0 where it refuses.
+#![tactic(auto)]
+
 ghost use Rattle.std.specs.Prelude.{◌≡◌, pos};
 ghost use Rattle.sheet.specs.Questions.{check_of};
 ghost use Rattle.step.specs.Step.{step_of};

@@ -1,4 +1,6 @@
 // The work plan of a sheet in whole units: the lasso of its plan as pairs of units to wait and an edge number.
+#![tactic(auto)]
+
 ghost use Rattle.std.specs.Prelude.{◌≡◌};
 ghost use Rattle.sheet.specs.Questions.{check_of};
 ghost use Rattle.sheet.specs.Decoded.{read_of};

@@ -2,9 +2,8 @@
 use mathlib.Core.Path.{refl, ◌∙◌}
 use mir.Syntax.{w64}
 use mir.ValLaws.{to_z-of_z}
-use borrow.Author.Rules.{rules, sfits_of}
+use borrow.Author.Rules.{sfits_of}
 use Rattle.exports.specs.ExportedWork.{exported}
-use Rattle.std.proofs.Common.{rules}
 use Rattle.exports.proofs.planner_work.Goals as goal
 
 pub returns : goal.returns

@@ -1,15 +1,10 @@
 -- The bytes before clock j have the parity.
-use mathlib.Core.Path.{◌≡◌, sym}
-use mathlib.Core.Bool.{Bool, true}
-use mathlib.Core.List.{List}
-use Prim.Native.Nat.{ℕ, ◌-◌, ◌%◌, ◌≤◌}
+use mathlib.Core.Path.{sym}
+use Prim.Native.Nat.{◌%◌}
 use native.Mathlib.Omega.{arith}
 use borrow.Author.Tests.{ne_eqb, eq-eqb}
-use lib.Dec.{eqb}
 use lib.ListN.{get_or}
-use Rattle.sheet.specs.Questions.{each}
 use Rattle.sheet.proofs.QuestionLaws.{each_none, each_more, each_fails, each_all}
-use Rattle.std.proofs.Common.{rules}
 use Rattle.work.proofs.closed.all_of_parity.Invariants.{has}
 use Rattle.work.proofs.closed.all_of_parity.Goals as goal
 

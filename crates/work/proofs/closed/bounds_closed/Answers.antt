@@ -1,13 +1,8 @@
 -- The locations passed have odd bounds.
 use mathlib.Core.Path.{◌≡◌, sym, ap, ◌∙◌}
-use mathlib.Core.Bool.{Bool, true}
-use mathlib.Core.List.{List}
-use Prim.Native.Nat.{ℕ, ◌-◌, ◌≤◌}
 use native.Mathlib.Omega.{arith}
-use borrow.Author.Tests.{not-true, not-false}
-use lib.ListN.{length, get_or}
+use lib.ListN.{length}
 use Rattle.integers.proofs.Lists.{any_default}
-use Rattle.sheet.specs.Questions.{each}
 use Rattle.sheet.specs.Decoded.{blank_location}
 use Rattle.sheet.specs.declared.Location.{Location}
 use Rattle.sheet.proofs.QuestionLaws.{each_none, each_more, each_fails, each_all}
@@ -27,7 +22,7 @@ loop-l-smaller c =
 pub loop-l-preserved : goal.loop-l-preserved
 loop-l-preserved c =
     let told : c.all_of_parity.result ≡ odd c.args.locations c.args.clocks c.loop-l.l =
-      let n : length c.args.locations ≡ 12 = search rules in
+    let n : length c.args.locations ≡ 12 = search rules in
     c.all_of_parity.ensures ∙ ap (λ (x : Location). all_of_parity x.upper c.args.clocks 1)
     (any_default c.args.locations c.loop-l.l _ blank_location (omega arith)) in
     let a = c.args in
@@ -36,7 +31,7 @@ loop-l-preserved c =
 pub returns-then-not-all_of_parity : goal.returns-then-not-all_of_parity
 returns-then-not-all_of_parity c =
     let told : c.all_of_parity.result ≡ odd c.args.locations c.args.clocks c.loop-l.l =
-      let n : length c.args.locations ≡ 12 = search rules in
+    let n : length c.args.locations ≡ 12 = search rules in
     c.all_of_parity.ensures ∙ ap (λ (x : Location). all_of_parity x.upper c.args.clocks 1)
     (any_default c.args.locations c.loop-l.l _ blank_location (omega arith)) in
     let a = c.args in

@@ -1,16 +1,12 @@
 -- The locations passed have odd bounds.
-use mathlib.Core.Path.{◌≡◌, sym, ap, ◌∙◌}
+use mathlib.Core.Path.{◌≡◌}
 use mathlib.Core.Bool.{Bool, true}
 use mathlib.Core.List.{List}
 use Prim.Native.Nat.{ℕ, ◌-◌, ◌≤◌}
-use native.Mathlib.Omega.{arith}
-use borrow.Author.Tests.{not-true, not-false}
-use lib.ListN.{length, get_or}
-use Rattle.integers.proofs.Lists.{any_default}
+use lib.ListN.{get_or}
 use Rattle.sheet.specs.Questions.{each}
 use Rattle.sheet.specs.Decoded.{blank_location}
 use Rattle.sheet.specs.declared.Location.{Location}
-use Rattle.sheet.proofs.QuestionLaws.{each_none, each_more, each_fails, each_all}
 use Rattle.work.specs.PrivatePromises.{all_of_parity}
 use Rattle.work.proofs.closed.bounds_closed.Given as goal
 

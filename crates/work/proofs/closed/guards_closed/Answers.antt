@@ -1,14 +1,12 @@
 -- The edges passed have even lower guards and odd upper ones.
 use mathlib.Core.Path.{◌≡◌, sym, ap, ap₂, ◌∙◌}
-use mathlib.Core.Bool.{Bool, true, ◌&&◌}
+use mathlib.Core.Bool.{Bool, ◌&&◌}
 use mathlib.Core.List.{List}
 use Prim.Native.Nat.{ℕ, ◌<◌}
 use native.Mathlib.Omega.{arith}
-use borrow.Author.Tests.{not-true, not-false}
 use lib.ListN.{length, get_or}
 use Rattle.integers.proofs.Lists.{any_default}
 use Rattle.automaton.proofs.Tests.{&&-intro}
-use Rattle.sheet.specs.Questions.{each}
 use Rattle.sheet.specs.Decoded.{blank_edge}
 use Rattle.sheet.specs.declared.Edge.{Edge}
 use Rattle.sheet.proofs.QuestionLaws.{each_none, each_more, each_fails, each_all}
@@ -29,9 +27,9 @@ loop-e-init c =
 pub loop-e-preserved : goal.loop-e-preserved
 loop-e-preserved c =
     let lowers : c.all_of_parity.result ≡ even c.args.edges c.args.clocks c.loop-e.e =
-      c.all_of_parity.ensures ∙ ap (λ (x : Edge). all_of_parity x.lower c.args.clocks 0) (record_of c.args.edges c.loop-e.e _ (search rules) (omega arith)) in
+    c.all_of_parity.ensures ∙ ap (λ (x : Edge). all_of_parity x.lower c.args.clocks 0) (record_of c.args.edges c.loop-e.e _ (search rules) (omega arith)) in
     let uppers : c.all_of_parity-in-loop-e.result ≡ odd c.args.edges c.args.clocks c.loop-e.e =
-      c.all_of_parity-in-loop-e.ensures ∙ ap (λ (x : Edge). all_of_parity x.upper c.args.clocks 1) (record_of c.args.edges c.loop-e.e _ (search rules) (omega arith)) in
+    c.all_of_parity-in-loop-e.ensures ∙ ap (λ (x : Edge). all_of_parity x.upper c.args.clocks 1) (record_of c.args.edges c.loop-e.e _ (search rules) (omega arith)) in
     let a = c.args in (
       omega arith,
       each_more c.loop-e.e (both a.edges a.clocks) c.loop-e.invariant.1
@@ -41,7 +39,7 @@ loop-e-preserved c =
 pub returns-then-not-all_of_parity : goal.returns-then-not-all_of_parity
 returns-then-not-all_of_parity c =
     let lowers : c.all_of_parity.result ≡ even c.args.edges c.args.clocks c.loop-e.e =
-      c.all_of_parity.ensures ∙ ap (λ (x : Edge). all_of_parity x.lower c.args.clocks 0) (record_of c.args.edges c.loop-e.e _ (search rules) (omega arith)) in
+    c.all_of_parity.ensures ∙ ap (λ (x : Edge). all_of_parity x.lower c.args.clocks 0) (record_of c.args.edges c.loop-e.e _ (search rules) (omega arith)) in
     let a = c.args in
     sym (each_fails a.count (both a.edges a.clocks) c.loop-e.e (omega arith)
     (ap (λ (b : Bool). b && odd a.edges a.clocks c.loop-e.e) (sym lowers ∙ c.if-not-all_of_parity.true)))
@@ -49,9 +47,9 @@ returns-then-not-all_of_parity c =
 pub returns-then-not-all_of_parity-2 : goal.returns-then-not-all_of_parity-2
 returns-then-not-all_of_parity-2 c =
     let lowers : c.all_of_parity.result ≡ even c.args.edges c.args.clocks c.loop-e.e =
-      c.all_of_parity.ensures ∙ ap (λ (x : Edge). all_of_parity x.lower c.args.clocks 0) (record_of c.args.edges c.loop-e.e _ (search rules) (omega arith)) in
+    c.all_of_parity.ensures ∙ ap (λ (x : Edge). all_of_parity x.lower c.args.clocks 0) (record_of c.args.edges c.loop-e.e _ (search rules) (omega arith)) in
     let uppers : c.all_of_parity-in-loop-e.result ≡ odd c.args.edges c.args.clocks c.loop-e.e =
-      c.all_of_parity-in-loop-e.ensures ∙ ap (λ (x : Edge). all_of_parity x.upper c.args.clocks 1) (record_of c.args.edges c.loop-e.e _ (search rules) (omega arith)) in
+    c.all_of_parity-in-loop-e.ensures ∙ ap (λ (x : Edge). all_of_parity x.upper c.args.clocks 1) (record_of c.args.edges c.loop-e.e _ (search rules) (omega arith)) in
     let a = c.args in
     sym (each_fails a.count (both a.edges a.clocks) c.loop-e.e (omega arith)
     (ap₂ ◌&&◌ (sym lowers ∙ c.if-not-all_of_parity.false) (sym uppers ∙ c.if-not-all_of_parity-2.true)))

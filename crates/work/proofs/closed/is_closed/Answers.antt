@@ -1,11 +1,9 @@
 -- The bounds, and then the guards.
 use mathlib.Core.Path.{sym, ap, ◌∙◌}
 use mathlib.Core.Bool.{Bool, ◌&&◌}
-use borrow.Author.Tests.{not-true, not-false}
 use Rattle.nodes.specs.Decoded.{decoded_meaning}
 use Rattle.schedules.specs.Closed.{guards_closed, is_closed}
-use Rattle.work.proofs.ClosedSheet.{few_clocks_lem, bounds_are, guards_are}
-use Rattle.std.proofs.Common.{rules}
+use Rattle.work.proofs.ClosedSheet.{bounds_are, guards_are}
 use Rattle.work.proofs.closed.is_closed.Goals as goal
 
 pub returns-then-not-bounds_closed : goal.returns-then-not-bounds_closed

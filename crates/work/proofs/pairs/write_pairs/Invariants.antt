@@ -1,12 +1,8 @@
 -- What is still to be written from place i on is all that is to be written.
-use mathlib.Core.Logic.{⊎_elim}
-use mathlib.Core.List.{◌∷◌}
-use Prim.Native.Nat.{◌+◌, ◌-◌, ◌≤◌, ◌<◌}
-use native.Mathlib.Omega.{arith}
-use lib.ListN.{length, get_or}
+use Prim.Native.Nat.{◌-◌, ◌≤◌}
 use lib.Seq.{slice}
 use Rattle.work.specs.Work.{lent_pairs}
-use Rattle.work.proofs.PairSteps.{Going, going_on, at_place, place_left, edge_comes, wait_fits, unit_comes, move_comes, none_left}
+use Rattle.work.proofs.PairSteps.{Going}
 use Rattle.work.proofs.pairs.write_pairs.Given as goal
 
 abbrev pub invariant-loop-i : goal.invariant-loop-i

@@ -1,9 +1,6 @@
 -- Up to place i there is no edge.
-use mathlib.Core.Logic.{⊎_elim}
-use Prim.Native.Nat.{◌-◌, ◌≤◌}
 use native.Mathlib.Omega.{arith}
-use Rattle.work.proofs.EdgeSearch.{Before, begins, ends, found, goes_on}
-use Rattle.std.proofs.Common.{rules}
+use Rattle.work.proofs.EdgeSearch.{ends, found, goes_on}
 use Rattle.work.proofs.turn.past_edge.Goals as goal
 use Rattle.work.proofs.turn.past_edge.Goals.{in-32, in-33, in_default+else-code-lt32}
 
@@ -16,8 +13,11 @@ returns-in-0-to-31-clause-past c = (found c.args.codes.now c.loop-i.invariant.1.
 pub loop-i-preserved : goal.loop-i-preserved
 loop-i-preserved c = (
   omega arith,
-  (omega arith, goes_on c.args.codes.now c.loop-i.invariant.1.1 c.loop-i.invariant.0 (omega arith) c.requires.in_codes
-    (elim c.match-code.branch [ in-32 w ↦ omega arith | in-33 w ↦ omega arith | in_default+else-code-lt32 w ↦ omega arith ])),
+  (
+    omega arith,
+    goes_on c.args.codes.now c.loop-i.invariant.1.1 c.loop-i.invariant.0 (omega arith) c.requires.in_codes
+        (elim c.match-code.branch [ in-32 w ↦ omega arith | in-33 w ↦ omega arith | in_default+else-code-lt32 w ↦ omega arith ]),
+  ),
 )
 
 pub returns-clause-until : goal.returns-clause-until

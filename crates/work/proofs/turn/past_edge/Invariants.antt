@@ -1,8 +1,6 @@
 -- Up to place i there is no edge.
-use mathlib.Core.Logic.{⊎_elim}
 use Prim.Native.Nat.{◌-◌, ◌≤◌}
-use native.Mathlib.Omega.{arith}
-use Rattle.work.proofs.EdgeSearch.{Before, begins, ends, found, goes_on}
+use Rattle.work.proofs.EdgeSearch.{Before}
 use Rattle.work.proofs.turn.past_edge.Given as goal
 
 abbrev pub invariant-loop-i : goal.invariant-loop-i

@@ -6,7 +6,6 @@ use lib.Seq.{slice}
 use Rattle.work.specs.Work.{lent_pairs}
 use Rattle.work.specs.PrivatePromises.{LassoWritten}
 use Rattle.work.proofs.LassoSteps.{Parted, first_room, second_room, third_room, lasso_written}
-use Rattle.std.proofs.Common.{rules}
 use Rattle.work.proofs.turn.write_lasso.Goals as goal
 
 pub write_pairs-stem-requires-clause-room : goal.write_pairs-stem-requires-clause-room
@@ -36,7 +35,7 @@ overflow_cast-result c =
     let parted : Parted c.args.codes.now c.args.s c.args.m c.past_edge-turn.result =
     record { few = c.requires.few; there = c.requires.in_codes; low = t.from_on; high = t.within; turns = (t.until, t.past) } in
     let written : let a = c.args in LassoWritten (lent_pairs a.waits.now a.edges.now) (lent_pairs c.write_pairs-all.new.waits c.write_pairs-all.new.edges) (take a.s a.codes.now) (slice a.s (a.s + a.m) a.codes.now) (record { refusal = 0; stem = c.write_pairs-stem.result.count; cycle = c.write_pairs-all.result.count - c.write_pairs-stem.result.count }) =
-      lasso_written parted c.requires.long_enough c.write_pairs-stem.ensures c.write_pairs-rest.ensures c.write_pairs-all.ensures in
+    lasso_written parted c.requires.long_enough c.write_pairs-stem.ensures c.write_pairs-rest.ensures c.write_pairs-all.ensures in
     let h = written in omega (arith, h.stem_length, h.few)
 
 pub overflow_cast-result-2 : goal.overflow_cast-result-2
@@ -45,7 +44,7 @@ overflow_cast-result-2 c =
     let parted : Parted c.args.codes.now c.args.s c.args.m c.past_edge-turn.result =
     record { few = c.requires.few; there = c.requires.in_codes; low = t.from_on; high = t.within; turns = (t.until, t.past) } in
     let written : let a = c.args in LassoWritten (lent_pairs a.waits.now a.edges.now) (lent_pairs c.write_pairs-all.new.waits c.write_pairs-all.new.edges) (take a.s a.codes.now) (slice a.s (a.s + a.m) a.codes.now) (record { refusal = 0; stem = c.write_pairs-stem.result.count; cycle = c.write_pairs-all.result.count - c.write_pairs-stem.result.count }) =
-      lasso_written parted c.requires.long_enough c.write_pairs-stem.ensures c.write_pairs-rest.ensures c.write_pairs-all.ensures in
+    lasso_written parted c.requires.long_enough c.write_pairs-stem.ensures c.write_pairs-rest.ensures c.write_pairs-all.ensures in
     let h = written in omega (arith, h.cycle_length, h.few)
 
 pub returns : goal.returns
@@ -54,5 +53,5 @@ returns c =
     let parted : Parted c.args.codes.now c.args.s c.args.m c.past_edge-turn.result =
     record { few = c.requires.few; there = c.requires.in_codes; low = t.from_on; high = t.within; turns = (t.until, t.past) } in
     let written : let a = c.args in LassoWritten (lent_pairs a.waits.now a.edges.now) (lent_pairs c.write_pairs-all.new.waits c.write_pairs-all.new.edges) (take a.s a.codes.now) (slice a.s (a.s + a.m) a.codes.now) (record { refusal = 0; stem = c.write_pairs-stem.result.count; cycle = c.write_pairs-all.result.count - c.write_pairs-stem.result.count }) =
-      lasso_written parted c.requires.long_enough c.write_pairs-stem.ensures c.write_pairs-rest.ensures c.write_pairs-all.ensures in
+    lasso_written parted c.requires.long_enough c.write_pairs-stem.ensures c.write_pairs-rest.ensures c.write_pairs-all.ensures in
     written
