@@ -16,6 +16,7 @@ pub mod Corners
 pub mod Times
 pub mod Ratios
 pub mod Potentials
+pub mod LeastPotentials
 pub mod Covers
 pub mod Places
 pub mod Comparison

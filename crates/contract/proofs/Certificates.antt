@@ -1,49 +1,33 @@
 -- A certificate that passes its test shows what the rules say of the sheet, and so what every plan that meets the contract answers.
 use mathlib.Core.Path.{◌≡◌, refl, sym, ap, ◌∙◌, subst}
-use mathlib.Core.Bool.{Bool, true, ◌&&◌}
+use mathlib.Core.Bool.{true, ◌&&◌}
 use mathlib.Core.List.{List}
-use mathlib.Core.Option.{some}
 use Prim.Native.Nat.{ℕ, ◌<◌}
 use native.Mathlib.Omega.{arith}
 use borrow.Author.Tests.{ltb-true, eqb-true, eqb-false}
 use lib.Dec.{eqb}
 use lib.IntN.{ℤ, pos, ◌*ℤ◌}
 use lib.ListN.{length}
-use Rattle.integers.proofs.Parts.{lt_of, less}
-use Rattle.automaton.specs.Priced.{Priced}
-use Rattle.automaton.specs.Walks.{ReachableCycle}
 use Rattle.automaton.proofs.Tests.{by_bool, &&-left, &&-right}
 use Rattle.automaton.proofs.Ratios.{least_ratio, ratio_unique}
 use Rattle.sheet.specs.Questions.{check_of}
-use Rattle.nodes.specs.Meaning.{meaning, layout_of}
 use Rattle.walks.specs.Walk.{at, atℤ}
-use Rattle.contract.specs.Questions.{EarningCycle, IdleGain, none_earns, idle_gain, all_yes}
+use Rattle.contract.specs.Questions.{EarningCycle, none_earns, idle_gain, all_yes}
 use Rattle.contract.specs.Accepted.{NodeList}
 use Rattle.contract.specs.Plan as Plan
 use Rattle.contract.specs.Plan.{Answer, Buffers, LongEnough, SameLengths, step_on, start_of, faulty, explored, Planned}
 use Rattle.contract.specs.Answers.{Says, accepts, refuses, AcceptedAs, RefusedAs, Holds, Given}
-use Rattle.contract.specs.Rules.{index_of, earns, has_ratio, holds_all, is_lasso}
-use Rattle.contract.specs.Certificate.{Certificate, gains_idle, shows_accepted, shows_none_earns, shows_idle_gain, shows_refused, certifies}
-use Rattle.contract.proofs.Graphs.{code_below}
+use Rattle.contract.specs.Rules.{index_of, has_ratio, holds_all}
+use Rattle.contract.specs.Certificate.{Certificate, shows_accepted, shows_none_earns, shows_idle_gain, shows_refused, certifies}
 use Rattle.contract.proofs.Feasible.{none_earning, no_idle_gain}
 use Rattle.contract.proofs.Rules as Rules
 use Rattle.contract.proofs.Rules.{Closed, or_cases, all_at, lowest_is, equal}
 use Rattle.contract.proofs.PassedNodes.{node_list}
+use Rattle.contract.proofs.CertifiedLassos.{codes, lasso, earning, gaining}
 use Rattle.contract.proofs.JustWhen.{refusal_unique}
 use Rattle.contract.proofs.Rising.{same_count}
 
 module _ (bytes : List ℕ) where
-  codes : (x code : ℕ) (v : Priced ℕ) → step_on bytes x code ≡ some v → code < 34
-  codes = code_below (layout_of bytes) (meaning bytes)
-
-  -- a lasso whose cycle is as tested
-  lasso : (t : ℤ → ℕ → Bool) (stem cycle : List ℕ) → is_lasso (step_on bytes) (start_of bytes) t stem cycle ≡ true
-      → Closed (step_on bytes) (start_of bytes) codes t
-  lasso = Rules.lasso (step_on bytes) (start_of bytes) codes
-
-  earning : (t : ℤ → ℕ → Bool) (o : Closed (step_on bytes) (start_of bytes) codes t) → 0 < o.reward → EarningCycle (step_on bytes) (start_of bytes)
-  earning t o h = record { cost = o.cost; reward = o.reward; cycle = o.cycle; earns = h }
-
   accepted : (p : ℤ) (q n : ℕ) (c : Certificate) → check_of bytes ≡ 0 → shows_accepted (step_on bytes) (start_of bytes) p q n c ≡ true
       → AcceptedAs bytes p q n
   unfolding shows_accepted
@@ -53,39 +37,24 @@ module _ (bytes : List ℕ) where
       let all = all_at _ h 0 (omega arith) in
       let lowest = lowest_is p q (all_at _ h 3 (omega arith)) in
       let π : ℕ → ℤ = λ z. atℤ c.potentials (index_of c.nodes z) in
-      let feasible = Rules.feasible step start codes c.nodes all p q c.potentials (all_at _ h 4 (omega arith)) in
-      let o = lasso (has_ratio p q) c.stem c.cycle (all_at _ h 5 (omega arith)) in
+      let feasible = Rules.feasible step start (codes bytes) c.nodes all p q c.potentials (all_at _ h 4 (omega arith)) in
+      let o = lasso bytes (has_ratio p q) c.stem c.cycle (all_at _ h 5 (omega arith)) in
       let earned : 0 < o.reward = ltb-true 0 o.reward (all_at _ o.passes 0 (omega arith)) in
       record {
-        judged = λ b l. explored l ok (all_yes refl (Rules.not_many step start codes c.nodes all) (earning (has_ratio p q) o earned)
+        judged = λ b l. explored l ok (all_yes refl (Rules.not_many step start (codes bytes) c.nodes all) (earning bytes (has_ratio p q) o earned)
             (no_idle_gain step start p q lowest.positive π feasible));
         ratio = least_ratio step start p q π feasible lowest o.cost o.reward o.cycle earned
             (equal (pos q *ℤ o.cost) (p *ℤ pos o.reward) (all_at _ o.passes 1 (omega arith)) (all_at _ o.passes 2 (omega arith)));
         nodes = c.nodes;
         node_list = subst (λ (k : ℕ). NodeList step start k c.nodes) (eqb-true (length c.nodes) n (all_at _ h 1 (omega arith)))
-            (node_list step start codes c.nodes all c.walks (all_at _ h 2 (omega arith)));
+            (node_list step start (codes bytes) c.nodes all c.walks (all_at _ h 2 (omega arith)));
       }
 
   no_earning : (c : Certificate) → holds_all (step_on bytes) (start_of bytes) c.nodes ≡ true → shows_none_earns (step_on bytes) (start_of bytes) c ≡ true
       → ¬ EarningCycle (step_on bytes) (start_of bytes)
   unfolding shows_none_earns
   no_earning c all h = none_earning (step_on bytes) (start_of bytes) (λ z. atℤ c.potentials (index_of c.nodes z))
-      (Rules.feasible (step_on bytes) (start_of bytes) codes c.nodes all (pos 1) 0 c.potentials h)
-
-  gaining : (c : Certificate) → shows_idle_gain (step_on bytes) (start_of bytes) c ≡ true
-      → EarningCycle (step_on bytes) (start_of bytes) × IdleGain (step_on bytes) (start_of bytes)
-  unfolding shows_idle_gain
-  gaining c h =
-      let o = lasso earns c.stem c.cycle (all_at _ h 0 (omega arith)) in
-      let i = lasso gains_idle c.idle_stem c.idle_cycle (all_at _ h 1 (omega arith)) in
-      let e : i.reward ≡ 0 = eqb-true i.reward 0 (all_at _ i.passes 0 (omega arith)) in (
-        earning earns o (ltb-true 0 o.reward o.passes),
-        record {
-          cost = i.cost;
-          cycle = subst (ReachableCycle (step_on bytes) (start_of bytes) i.cost) e i.cycle;
-          gains = lt_of i.cost (pos 0) (less i.cost (pos 0) (all_at _ i.passes 1 (omega arith)));
-        },
-      )
+      (Rules.feasible (step_on bytes) (start_of bytes) (codes bytes) c.nodes all (pos 1) 0 c.potentials h)
 
   refused : (r : ℕ) (c : Certificate) → check_of bytes ≡ 0 → shows_refused (step_on bytes) (start_of bytes) r c ≡ true → RefusedAs bytes r
   unfolding shows_refused
@@ -95,12 +64,12 @@ module _ (bytes : List ℕ) where
       let all = all_at _ h 0 (omega arith) in
       let none = shows_none_earns step start c in
       let gain = shows_idle_gain step start c in
-      let few = Rules.not_many step start codes c.nodes all in
+      let few = Rules.not_many step start (codes bytes) c.nodes all in
       or_cases (eqb r 13 && none) (eqb r 14 && gain) (all_at _ h 1 (omega arith))
       (λ t. let e : r ≡ 13 = eqb-true r 13 (&&-left (eqb r 13) none t) in
       record { some_number = omega arith; judged = λ b l. explored l ok (none_earns e few (no_earning c all (&&-right (eqb r 13) none t))) })
       (λ t. let e : r ≡ 14 = eqb-true r 14 (&&-left (eqb r 14) gain t) in
-      let k = gaining c (&&-right (eqb r 14) gain t) in
+      let k = gaining bytes c (&&-right (eqb r 14) gain t) in
       record { some_number = omega arith; judged = λ b l. explored l ok (idle_gain e few k.0 k.1) })
 
   pub certified : (a : Says) (c : Certificate) → certifies bytes a c ≡ true → Holds bytes a

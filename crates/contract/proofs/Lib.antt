@@ -18,6 +18,7 @@ pub mod Unique
 pub mod CycleSums
 pub mod Rules
 pub mod PassedNodes
+pub mod CertifiedLassos
 pub mod Certificates
 pub mod BenchTableHolds
 pub mod LassoKept

@@ -10,7 +10,7 @@ use lib.Signed.{◌≤ℤ◌}
 use Rattle.automaton.specs.Priced.{Priced}
 use Rattle.automaton.specs.Walks.{Reachable}
 use Rattle.automaton.specs.Weights.{Feasible, Potential}
-use Rattle.automaton.proofs.Potentials.{least_feasible, least_start}
+use Rattle.automaton.proofs.LeastPotentials.{least_feasible, least_start}
 use Rattle.walks.specs.Walk.{at, atℤ}
 use Rattle.contract.specs.Accepted.{Listed, PotentialList}
 use Rattle.contract.specs.Smallest.{smallest_potential}

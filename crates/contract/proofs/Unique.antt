@@ -13,7 +13,7 @@ use Rattle.automaton.specs.Priced.{Priced}
 use Rattle.automaton.specs.Times.{units_along}
 use Rattle.automaton.specs.Weights.{Potential}
 use Rattle.automaton.proofs.Walks.{same_walk}
-use Rattle.automaton.proofs.Potentials.{least_unique}
+use Rattle.automaton.proofs.LeastPotentials.{least_unique}
 use Rattle.automaton.proofs.Ratios.{ratio_unique}
 use Rattle.walks.specs.Walk.{at, atℤ}
 use Rattle.contract.specs.Accepted.{Accepted}
