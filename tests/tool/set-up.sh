@@ -126,6 +126,10 @@ ln -s "$copy/tools" "$work/elsewhere/tools"
 : >"$CALLS"
 ends "a linked folder" 0 env CDPATH="$work:/" PATH="$work/commands:/usr/bin:/bin" "$work/elsewhere/tools/plan" sheets/bench.txt
 expect "a linked folder: calls" "$(cat "$CALLS")" "$built"
+ln -s "$copy/crates" "$copy/crates.txt" "$work/elsewhere/"
+: >"$CALLS"
+ends "a linked folder, up to date" 0 set_up "$work/elsewhere/tools/plan" sheets/bench.txt
+expect "a linked folder, up to date: calls" "$(cat "$CALLS")" ""
 # a sheet on standard input is not read by what builds
 rm -r "$copy/target"
 ends "standard input while it builds" 0 set_up "$copy/tools/plan" - <sheets/bench.txt
