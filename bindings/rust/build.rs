@@ -7,7 +7,7 @@ fn main() {
     let library = folder.join("libexports.a");
     println!("cargo:rerun-if-changed={}", library.display());
     if !library.exists() {
-        eprintln!("{} is missing: `rt lib` in crates/exports builds it", library.display());
+        eprintln!("{} is missing: `rt lib --cpu x86-64` in crates/exports builds it", library.display());
         std::process::exit(1);
     }
     println!("cargo:rustc-link-search=native={}", folder.display());

@@ -41,7 +41,7 @@ echo "cargo $1" >>"$CALLS"
 END
 chmod +x "$work/commands/rt" "$work/commands/cargo"
 export CALLS=$work/calls TOOL=$root/target/tools/release/planner FAILS=nothing
-built=$'rt lib in exports\ncargo build'
+built=$'rt lib --cpu x86-64 in exports\ncargo build'
 # as a new user has it: only the stand-ins and the system's commands
 set_up() { PATH=$work/commands:/usr/bin:/bin "$@"; }
 wanted=$(planner plan sheets/bench.txt)
@@ -137,8 +137,8 @@ expect "standard input while it builds" "$(sed 1d "$work/out")" "$(sed 1d <<<"$w
 
 # a build that fails is told, and tried again the next time
 touch "$copy/crates.txt"
-for failing in lib build; do
-  case $failing in lib) said="rt lib" why="rt: sheet is not proved" ;; build) said="cargo build" why="cargo: no such crate" ;; esac
+for failing in "lib --cpu x86-64" build; do
+  case $failing in lib*) said="rt lib" why="rt: sheet is not proved" ;; build) said="cargo build" why="cargo: no such crate" ;; esac
   for turn in first second; do
     ends "a $turn $said that fails" 69 env FAILS="$failing" PATH="$work/commands:/usr/bin:/bin" "$copy/tools/plan" sheets/bench.txt
     holds "a $turn $said that fails" "$(cat "$work/err")" "$why"
