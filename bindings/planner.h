@@ -9,9 +9,10 @@
  * crates/exports/src/lib.rt, whose contracts are proved; this file only declares them.
  *
  * LINKING
- *   `rt staticlib exports` proves the planner and writes target/staticlib/libexports.a, for
- *   x86-64 Linux. It takes memset and memcpy from the C library, and nothing else:
- *       cc -Ibindings program.c target/staticlib/libexports.a
+ *   `rt lib --cpu x86-64` in crates/exports proves the planner and writes
+ *   crates/exports/out/libexports.a, for x86-64 Linux. It takes memset and memcpy from the C
+ *   library, and nothing else:
+ *       cc -Ibindings program.c crates/exports/out/libexports.a
  *
  * WHAT A CALL NEEDS
  *   - A slice crosses as a pointer and a count of entries (not of bytes).

@@ -1,15 +1,15 @@
 # Status 70: the tool linked with a library that lies tells the difference and prints no schedule.
 
 lying=$work/lying
-mkdir -p "$lying/bindings" "$lying/tools" "$lying/target/staticlib"
+mkdir -p "$lying/bindings" "$lying/tools" "$lying/crates/exports/out"
 cp -r bindings/rust "$lying/bindings/"
 cp -r tools/planner "$lying/tools/"
 for call in plan work check step; do
   echo "planner_$call true_planner_$call"
 done >"$lying/names"
-objcopy --redefine-syms="$lying/names" target/staticlib/libexports.a "$lying/target/staticlib/libexports.a"
+objcopy --redefine-syms="$lying/names" crates/exports/out/libexports.a "$lying/crates/exports/out/libexports.a"
 cc -O1 -c -o "$lying/lies.o" tests/tool/lies.c
-ar r "$lying/target/staticlib/libexports.a" "$lying/lies.o" 2>/dev/null
+ar r "$lying/crates/exports/out/libexports.a" "$lying/lies.o" 2>/dev/null
 cargo build -q --offline --manifest-path "$lying/tools/planner/Cargo.toml" --target-dir "$work/built" || fail "the lying tool is not built"
 liar=$work/built/debug/planner
 

@@ -10,7 +10,7 @@ for file in sheets/*.txt; do
   ends "$file decoded" 0 planner decode "$work/first"
   cp "$work/out" "$work/text.txt"
   planner encode "$work/text.txt" | cmp -s - "$work/first" || fail "$file: other bytes after decoding"
-  found=$(target/bin/plan <"$work/first" | paste -sd '|' | sed 's/|/ | /g')
+  found=$(crates/plan/out/plan <"$work/first" | paste -sd '|' | sed 's/|/ | /g')
   expect "$file by the program" "$found" "$answer"
   row=$(grep -F "| [$name]($name) |" sheets/README.md | awk -F ' [|] ' '{print $2}' || true)
   expect "sheets/README.md on $name" "$row" "${answer// | /, }"

@@ -17,7 +17,7 @@ for file in sheets/wrong/*; do
     ends "$file planned" 1 planner plan "$work/wrong.sheet"
     expect "$file: the head" "$(head -1 "$work/out")" "$work/wrong.sheet: refused $number"
     holds "$file: the words" "$(cat "$work/out")" "${message#*byte *: }"
-    expect "$file by the program" "$(target/bin/plan <"$work/wrong.sheet")" "refused $number"
+    expect "$file by the program" "$(crates/plan/out/plan <"$work/wrong.sheet")" "refused $number"
     ;;
   *)
     ends "$file" 3 planner check "$file"

@@ -15,7 +15,7 @@
 //! ```
 //!
 //! The answers are those of the functions that `crates/exports` proves, in the static library that
-//! `rt staticlib exports` writes. The library allocates nothing and keeps no state; a plan takes up
+//! `rt lib --cpu x86-64` writes there. The library allocates nothing and keeps no state; a plan takes up
 //! to 878 KB of the calling thread's stack and a work plan up to 915 KB (measured), and Rust's
 //! threads have 2 MB.
 #![deny(missing_docs)]
