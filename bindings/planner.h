@@ -58,7 +58,7 @@
  *
  * STACK AND THREADS
  *   The functions allocate nothing; their room is the caller's stack. As bench/plan/run measured it,
- *   planner_work took 915 KB, planner_plan 878 KB, planner_step 4 KB and planner_check 2 KB at most;
+ *   planner_work took 915 KB, planner_plan 878 KB, planner_step 5 KB and planner_check 2 KB at most;
  *   it fails where one takes 2 MB. So a thread that plans does with a stack of 2 MB.
  *   They have no state, global or kept from call to call: threads may call them at the same time,
  *   each with memory of its own to write to. They do no input or output and set no errno.
