@@ -21,10 +21,10 @@ process 70000002 $$ $((30 * ticks)) $((2 * ticks)) ${here}sheet rattle build --c
 process 70000003 70000002 $((12 * ticks)) 0 ${here}sheet rattle build --crate-name sheet src/lib.rt
 process 70000004 $$ $((ticks * 3 / 2)) $((ticks / 2)) ${here}plan rattle check --crate-name plan src/main.rt
 process 70000005 $$ $((9 * ticks)) 0 ${here}walks rattle build --crate-name walks src/lib.rt
-process 70000006 $$ $((4 * ticks)) 0 /tmp/rt-edit-70-a rattle check --crate-name integers src/lib.rt
-process 70000007 $$ $((40 * ticks)) 0 /tmp/rt-edit-70-b rattle check --crate-name sheet src/lib.rt
-process 70000008 $$ $((41 * ticks)) 0 /tmp/rt-edit-70-c rattle check --crate-name sheet src/lib.rt
-process 70000009 $$ $((50 * ticks)) 0 /tmp/rt-edit-70-d rattle check --crate-name sheet src/lib.rt
+process 70000006 $$ $((4 * ticks)) 0 /elsewhere/rt-edit-70-a rattle check --crate-name integers src/lib.rt
+process 70000007 $$ $((40 * ticks)) 0 /elsewhere/rt-edit-70-b rattle check --crate-name sheet src/lib.rt
+process 70000008 $$ $((41 * ticks)) 0 /elsewhere/rt-edit-70-c rattle check --crate-name sheet src/lib.rt
+process 70000009 $$ $((50 * ticks)) 0 /elsewhere/rt-edit-70-d rattle check --crate-name sheet src/lib.rt
 # of somebody else, and no prover
 process 70000010 1 $((800 * ticks)) 0 ${here}sheet rattle check --crate-name sheet src/lib.rt
 process 70000011 $$ $((700 * ticks)) 0 ${here}sheet clang sheet.ll
