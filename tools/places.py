@@ -21,7 +21,7 @@ LINES = [
     ("3 loops that stand for a labelled block", r"'\w+: loop"),
     ("4 conversions by `as`", r"\bas (?:u8|u16|u32|u64|usize|i16|i64)\b"),
     ("6 a number of entries beside a list", r"[,(]\s*(?:k|n|nodes|count|arcs|potentials): usize"),
-    ("7 a match on which step or kind", r"match (?:code|kind|field|self)\b"),
+    ("7 a match on which step or kind", r"match \*?(?:code|kind|field|self)\b"),
 ]
 
 

@@ -1,237 +1,34 @@
 // Bench and every change to it, planned: a line for each.
-// Its bytes: edition, L, K and E; the location's map, cost rate (two bytes) and bound; the edge's map (two bytes), source, target, cost and
-// reward (two bytes each), reset mask and lower byte.
 #![tactic(auto)]
 
+mod rows;
 mod show;
 
+use rows::{BOUNDS, EDGES, EDGES_TWICE, EDITIONS, FOUR_CLOCKS, IDLE_EDGES, LENGTHS};
+use show::Answer;
 use std::io;
 
-fn case(rt: &impl Print, name: &[u8], sheet: &[u8]) -> io::Result<()> {
+fn case(rt: &impl Print, name: &str, sheet: &[u8]) -> io::Result<()> {
     let mut nodes = [0u64; 2048];
     let mut potentials = [0i64; 2048];
     let mut steps = [0u16; 2048];
-    let answer = planner::plan(sheet, &mut nodes, &mut potentials, &mut steps);
-    show::line(rt, name, answer)
+    let answer = Answer(planner::plan(sheet, &mut nodes, &mut potentials, &mut steps));
+    println!(rt; "{name}: {answer}")
 }
 
-fn bounds(rt: &impl Print) -> io::Result<()> {
-    case(
-        rt,
-        b"bound 04",
-        b"\x01\x01\x01\x01\x05\x01\x00\x04\x0F\x00\x00\x00\x05\x00\x02\x00\x01\x02",
-    )?;
-    case(
-        rt,
-        b"bound 19",
-        b"\x01\x01\x01\x01\x05\x01\x00\x19\x0F\x00\x00\x00\x05\x00\x02\x00\x01\x02",
-    )?;
-    case(
-        rt,
-        b"bound 1A",
-        b"\x01\x01\x01\x01\x05\x01\x00\x1A\x0F\x00\x00\x00\x05\x00\x02\x00\x01\x02",
-    )?;
-    case(
-        rt,
-        b"bound 03 with lower byte 03",
-        b"\x01\x01\x01\x01\x05\x01\x00\x03\x0F\x00\x00\x00\x05\x00\x02\x00\x01\x03",
-    )?;
-    case(
-        rt,
-        b"bound 02",
-        b"\x01\x01\x01\x01\x05\x01\x00\x02\x0F\x00\x00\x00\x05\x00\x02\x00\x01\x02",
-    )?;
-    case(
-        rt,
-        b"bound 01",
-        b"\x01\x01\x01\x01\x05\x01\x00\x01\x0F\x00\x00\x00\x05\x00\x02\x00\x01\x02",
-    )?;
-    case(
-        rt,
-        b"bound 00",
-        b"\x01\x01\x01\x01\x05\x01\x00\x00\x0F\x00\x00\x00\x05\x00\x02\x00\x01\x02",
-    )
-}
-
-fn edges(rt: &impl Print) -> io::Result<()> {
-    case(
-        rt,
-        b"lower byte 03",
-        b"\x01\x01\x01\x01\x05\x01\x00\x05\x0F\x00\x00\x00\x05\x00\x02\x00\x01\x03",
-    )?;
-    case(
-        rt,
-        b"lower byte 00",
-        b"\x01\x01\x01\x01\x05\x01\x00\x05\x0F\x00\x00\x00\x05\x00\x02\x00\x01\x00",
-    )?;
-    case(
-        rt,
-        b"edge cost FC FF",
-        b"\x01\x01\x01\x01\x05\x01\x00\x05\x0F\x00\x00\x00\xFC\xFF\x02\x00\x01\x02",
-    )?;
-    case(
-        rt,
-        b"edge cost FB FF",
-        b"\x01\x01\x01\x01\x05\x01\x00\x05\x0F\x00\x00\x00\xFB\xFF\x02\x00\x01\x02",
-    )?;
-    case(
-        rt,
-        b"a second edge equal but for reward 3",
-        b"\x01\x01\x01\x02\x05\x01\x00\x05\x0F\x00\x00\x00\x05\x00\x02\x00\x01\x02\x0F\x00\x00\x00\x05\x00\x03\x00\x01\x02",
-    )?;
-    case(rt, b"no edge", b"\x01\x01\x01\x00\x05\x01\x00\x05")?;
-    case(
-        rt,
-        b"reward left out",
-        b"\x01\x01\x01\x01\x05\x01\x00\x05\x0D\x00\x00\x00\x05\x00\x01\x02",
-    )
-}
-
-// Changes by an edge without reward, none of them 01's.
-fn idle_edges(rt: &impl Print) -> io::Result<()> {
-    case(
-        rt,
-        b"a second edge equal but without reward",
-        b"\x01\x01\x01\x02\x05\x01\x00\x05\x0F\x00\x00\x00\x05\x00\x02\x00\x01\x02\x0D\x00\x00\x00\x05\x00\x01\x02",
-    )?;
-    case(
-        rt,
-        b"a second edge without reward and cost FC FF",
-        b"\x01\x01\x01\x02\x05\x01\x00\x05\x0F\x00\x00\x00\x05\x00\x02\x00\x01\x02\x0D\x00\x00\x00\xFC\xFF\x01\x02",
-    )?;
-    case(
-        rt,
-        b"reward left out and edge cost FC FF",
-        b"\x01\x01\x01\x01\x05\x01\x00\x05\x0D\x00\x00\x00\xFC\xFF\x01\x02",
-    )
-}
-
-// Changes by an edge entered twice, none of them 01's.
-fn edges_twice(rt: &impl Print) -> io::Result<()> {
-    case(
-        rt,
-        b"the edge entered twice",
-        b"\x01\x01\x01\x02\x05\x01\x00\x05\x0F\x00\x00\x00\x05\x00\x02\x00\x01\x02\x0F\x00\x00\x00\x05\x00\x02\x00\x01\x02",
-    )?;
-    case(
-        rt,
-        b"the edge entered twice, and a byte more",
-        b"\x01\x01\x01\x02\x05\x01\x00\x05\x0F\x00\x00\x00\x05\x00\x02\x00\x01\x02\x0F\x00\x00\x00\x05\x00\x02\x00\x01\x02\x00",
-    )?;
-    case(
-        rt,
-        b"the edge entered twice, and bound 00",
-        b"\x01\x01\x01\x02\x05\x01\x00\x00\x0F\x00\x00\x00\x05\x00\x02\x00\x01\x02\x0F\x00\x00\x00\x05\x00\x02\x00\x01\x02",
-    )?;
-    case(
-        rt,
-        b"the edge entered twice, one with reward 3 between",
-        b"\x01\x01\x01\x03\x05\x01\x00\x05\x0F\x00\x00\x00\x05\x00\x02\x00\x01\x02\x0F\x00\x00\x00\x05\x00\x03\x00\x01\x02\x0F\x00\x00\x00\x05\x00\x02\x00\x01\x02",
-    )
-}
-
-fn lengths(rt: &impl Print) -> io::Result<()> {
-    case(
-        rt,
-        b"a byte more",
-        b"\x01\x01\x01\x01\x05\x01\x00\x05\x0F\x00\x00\x00\x05\x00\x02\x00\x01\x02\x00",
-    )?;
-    case(
-        rt,
-        b"a byte less",
-        b"\x01\x01\x01\x01\x05\x01\x00\x05\x0F\x00\x00\x00\x05\x00\x02\x00\x01",
-    )?;
-    case(rt, b"empty", b"")?;
-    let longest = [0u8; 656];
-    case(rt, b"656 bytes, all 0", &longest)?;
-    let longer = [0u8; 657];
-    case(rt, b"657 bytes, all 0", &longer)
-}
-
-// Changes by the edition: 01 has edition 2 with L 0 alone.
-fn editions(rt: &impl Print) -> io::Result<()> {
-    case(
-        rt,
-        b"edition 2",
-        b"\x02\x01\x01\x01\x05\x01\x00\x05\x0F\x00\x00\x00\x05\x00\x02\x00\x01\x02",
-    )?;
-    case(
-        rt,
-        b"edition 2 with L 0",
-        b"\x02\x00\x01\x01\x05\x01\x00\x05\x0F\x00\x00\x00\x05\x00\x02\x00\x01\x02",
-    )?;
-    case(
-        rt,
-        b"edition 3",
-        b"\x03\x01\x01\x01\x05\x01\x00\x05\x0F\x00\x00\x00\x05\x00\x02\x00\x01\x02",
-    )?;
-    case(
-        rt,
-        b"edition 1, four clocks",
-        b"\x01\x01\x04\x01\x05\x01\x00\x05\x0F\x00\x00\x00\x05\x00\x02\x00\x01\x02",
-    )?;
-    case(
-        rt,
-        b"edition 2, five clocks",
-        b"\x02\x01\x05\x01\x05\x01\x00\x05\x0F\x00\x00\x00\x05\x00\x02\x00\x01\x02",
-    )?;
-    case(
-        rt,
-        b"upper guard 05 by bit 6",
-        b"\x01\x01\x01\x01\x05\x01\x00\x05\x4F\x00\x00\x00\x05\x00\x02\x00\x01\x02\x05",
-    )?;
-    case(
-        rt,
-        b"edition 2, bit 6",
-        b"\x02\x01\x01\x01\x05\x01\x00\x05\x4F\x00\x00\x00\x05\x00\x02\x00\x01\x02\x05",
-    )
-}
-
-// Bench with four clocks, each with bound 05, and edition 2 with two locations, left in turn after 1 unit and after 2.
-fn four_clocks(rt: &impl Print) -> io::Result<()> {
-    case(
-        rt,
-        b"four clocks, all reset, lower guard of clock 0",
-        b"\x02\x01\x04\x01\x3D\x01\x00\x05\x05\x05\x05\x0F\x00\x00\x00\x05\x00\x02\x00\x0F\x02",
-    )?;
-    case(
-        rt,
-        b"four clocks, lower guard of clock 3",
-        b"\x02\x01\x04\x01\x3D\x01\x00\x05\x05\x05\x05\x47\x00\x00\x00\x05\x00\x02\x00\x0F\x02",
-    )?;
-    case(
-        rt,
-        b"four clocks, upper guard 01 of clock 3",
-        b"\x02\x01\x04\x01\x3D\x01\x00\x05\x05\x05\x05\x0F\x04\x00\x00\x05\x00\x02\x00\x0F\x02\x01",
-    )?;
-    case(
-        rt,
-        b"four clocks, clock 3 not reset",
-        b"\x02\x01\x04\x01\x3D\x01\x00\x05\x05\x05\x05\x0F\x00\x00\x00\x05\x00\x02\x00\x07\x02",
-    )?;
-    case(
-        rt,
-        b"edition 2, two locations in turn",
-        b"\x02\x02\x01\x02\x05\x01\x00\x05\x05\x02\x00\x07\x0C\x00\x00\x01\x01\x02\x0E\x00\x01\x00\x03\x00\x01\x04",
-    )?;
-    case(
-        rt,
-        b"four clocks, bit 11",
-        b"\x02\x01\x04\x01\x3D\x01\x00\x05\x05\x05\x05\x0F\x08\x00\x00\x05\x00\x02\x00\x0F\x02\x05",
-    )
+fn all(rt: &impl Print, cases: &[(&str, &[u8])]) -> io::Result<()> {
+    for (name, sheet) in cases {
+        case(rt, name, sheet)?;
+    }
+    Ok(())
 }
 
 fn main(rt: HostRuntime) -> io::Result<()> {
-    case(
-        &rt,
-        b"as given",
-        b"\x01\x01\x01\x01\x05\x01\x00\x05\x0F\x00\x00\x00\x05\x00\x02\x00\x01\x02",
-    )?;
-    bounds(&rt)?;
-    edges(&rt)?;
-    idle_edges(&rt)?;
-    edges_twice(&rt)?;
-    lengths(&rt)?;
-    editions(&rt)?;
-    four_clocks(&rt)
+    all(&rt, &BOUNDS)?;
+    all(&rt, &EDGES)?;
+    all(&rt, &IDLE_EDGES)?;
+    all(&rt, &EDGES_TWICE)?;
+    all(&rt, &LENGTHS)?;
+    all(&rt, &EDITIONS)?;
+    all(&rt, &FOUR_CLOCKS)
 }

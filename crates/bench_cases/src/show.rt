@@ -1,17 +1,17 @@
-// A case, as it is printed: its name and the answer on one line.
-use planner::Answer;
-use std::io;
+// An answer, as it is printed.
+use planner::Plan;
+use refusals::Refusal;
+use std::fmt::{self, Display};
 
-fn accepted(rt: &impl Print, p: i64, q: u64, n: u64) -> io::Result<()> {
-    print!(rt; ": ratio {p} {q}, nodes {n}")
-}
+// The ratio and the number of nodes, or the number of the refusal.
+#[derive(Drop)]
+pub(crate) struct Answer(pub(crate) Result<Plan, Refusal>);
 
-pub(crate) fn line(rt: &impl Print, name: &[u8], answer: Answer) -> io::Result<()> {
-    rt.write_all(name)?;
-    if answer.refusal == 0 {
-        accepted(rt, answer.p, answer.q as u64, answer.n as u64)?;
-    } else {
-        print!(rt; ": refused {}", answer.refusal)?;
+impl Display for Answer {
+    fn fmt<W: fmt::Write>(&self, f: &mut fmt::Formatter<W>) -> fmt::Result {
+        match self.0 {
+            Ok(Plan { p, q, n, .. }) => write!(f, "ratio {p} {q}, nodes {n}"),
+            Err(refusal) => write!(f, "refused {}", refusal.number()),
+        }
     }
-    println!(rt)
 }

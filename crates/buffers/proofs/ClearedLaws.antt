@@ -1,29 +1,35 @@
--- Zeros from a place on, whatever the entries are: the loop that writes them, and what then stands in the list.
-use mathlib.Core.Path.{◌≡◌, refl, ap, ap₂, ◌∙◌}
-use mathlib.Core.List.{List, [], ◌∷◌, ◌++◌, append-nil, append_assoc}
-use Prim.Native.Nat.{ℕ, zero, suc, ◌+◌, ◌-◌, ◌≤◌, ◌<◌}
+-- Zeros from a place on, whatever the entries are: what is written, and what then stands in the list.
+use mathlib.Core.Path.{◌≡◌, refl, sym, ap, ap₂, ◌∙◌}
+use mathlib.Core.List.{List, [], ◌∷◌, ◌++◌, append-nil}
+use Prim.Native.Nat.{ℕ, zero, suc, ◌-◌, ◌≤◌, ◌<◌}
 use native.Mathlib.Omega.{arith}
-use native.Mathlib.Numerals.{add-one}
-use lib.ListN.{length, get_or, set, take, replicate, length-set, length-append, length-take, length-replicate}
-use lib.Seq.{take_all, take-suc-set}
+use borrow.Rule.Slice.PartMut.{put_mid}
+use lib.ListN.{length, get_or, take, drop, replicate, length-append, length-take, length-drop, length-replicate}
+use lib.Seq.{take_all}
+use Rattle.std.proofs.lemmas.List.{drop_all}
 use Rattle.buffers.specs.Cleared.{cleared}
 
--- ---- the loop
+-- ---- what is written
 
 module _ {A : Type 0} (z : A) (l : List A) where
-  -- a turn writes one zero, and what is left to write makes the same list
-  pub clear_more : (i : ℕ) → i < length l → cleared z (set l i z) (i + 1) ≡ cleared z l i
-  unfolding cleared
-  clear_more i h =
-      let e : suc (length l - suc i) ≡ length l - i = omega arith in
-      rw (add-one, length-set l i z, take-suc-set l i z h, append_assoc) (ap (λ (n : ℕ). take i l ++ replicate n z) e)
-
-  -- behind the end nothing is left to write
-  pub clear_none : (i : ℕ) → length l ≤ i → cleared z l i ≡ l
+  -- behind the end nothing is to be written
+  pub clear_none : (i : ℕ) → length l ≤ i → l ≡ cleared z l i
   unfolding cleared
   clear_none i h =
       let e : length l - i ≡ 0 = omega arith in
-      ap₂ (λ (x : List A) (n : ℕ). x ++ replicate n z) (take_all i l h) e ∙ append-nil l
+      sym (ap₂ (λ (x : List A) (n : ℕ). x ++ replicate n z) (take_all i l h) e ∙ append-nil l)
+
+  -- a part to the end, all of it zeros
+  pub cleared_part : (a n : ℕ) (part : List A) → length part ≡ length (take (length l - a) (drop a l)) → n ≡ length part → take n part ≡ replicate n z
+      → put_mid a (length l - a) l part ≡ cleared z l a
+  unfolding cleared
+  cleared_part a n part long all e =
+      let behind : length (drop a l) ≤ length l - a = omega (arith, length-drop a l) in
+      let whole : length part ≡ length l - a = omega (arith, length-take (length l - a) (drop a l), length-drop a l) in
+      let zeros : part ≡ replicate (length l - a) z =
+      sym (take_all n part (omega arith)) ∙ e ∙ ap (λ (k : ℕ). replicate k z) (all ∙ whole) in
+      ap₂ (λ (x y : List A). take a l ++ (x ++ y)) zeros (drop_all (length l - a) (drop a l) behind)
+      ∙ ap (λ (x : List A). take a l ++ x) (append-nil (replicate (length l - a) z))
 
 -- ---- zeros behind the front of a list
 

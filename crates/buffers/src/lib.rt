@@ -1,35 +1,16 @@
-// Lent buffers: zeros from a place on, for each type of entry.
+// Lent buffers: zeros from a place on.
 #![tactic(auto)]
 
-ghost use Rattle.std.specs.Prelude.{◌≡◌, pos};
+ghost use Rattle.std.specs.Prelude.{◌≡◌};
 ghost use Rattle.buffers.specs.Cleared.{cleared};
 
-pub fn clear_u16(list: &mut [u16], from: usize)
-    ensures { list.new ≡ cleared 0 list.old from }
+// `for` and not `fill`: of any T: Copy nothing says that a clone is the value, which `fill` goes by, so that callers would be asked for more.
+pub fn clear<T: Copy>(list: &mut [T], zero: T, from: usize)
+    ensures { list.new ≡ cleared zero list.old from }
 {
-    let mut i = from;
-    while i < list.len() {
-        list[i] = 0;
-        i += 1;
-    }
-}
-
-pub fn clear_u64(list: &mut [u64], from: usize)
-    ensures { list.new ≡ cleared 0 list.old from }
-{
-    let mut i = from;
-    while i < list.len() {
-        list[i] = 0;
-        i += 1;
-    }
-}
-
-pub fn clear_i64(list: &mut [i64], from: usize)
-    ensures { list.new ≡ cleared (pos 0) list.old from }
-{
-    let mut i = from;
-    while i < list.len() {
-        list[i] = 0;
-        i += 1;
+    if from < list.len() {
+        for entry in &mut list[from..] {
+            *entry = zero;
+        }
     }
 }

@@ -8,17 +8,14 @@ ghost use Rattle.std.specs.Prelude.{◌≡◌, length};
 mod show;
 mod text;
 
+use show::{Checked, StepLine};
 use std::io;
 
-fn check_case(rt: &impl Print, line: &[u8]) -> io::Result<()> {
+fn check_case(rt: &impl Print, case: &[u8]) -> io::Result<()> {
     let mut bytes = [0u8; 704];
-    let n = text::unhex(line, 6, &mut bytes);
-    let refusal = reader::check(&bytes[..n]);
-    print!(rt; "{refusal}")?;
-    let name = 6 + 2 * n;
-    if name <= line.len() {
-        rt.write_all(&line[name..])?;
-    }
+    let n = text::unhex(case, &mut bytes);
+    print!(rt; "{}", Checked(reader::check(&bytes[..n])))?;
+    rt.write_all(&case[2 * n..])?;
     println!(rt)
 }
 
@@ -26,39 +23,35 @@ fn unknown(rt: &impl Print) -> io::Result<()> {
     println!(rt; "neither check SHEET NAME nor step SHEET NODE CODE")
 }
 
-fn step_case(rt: &impl Print, line: &[u8]) -> io::Result<()> {
+fn step_case(rt: &impl Print, case: &[u8]) -> io::Result<()> {
     let mut bytes = [0u8; 704];
-    let n = text::unhex(line, 5, &mut bytes);
-    let from = 6 + 2 * n;
-    if line.len() < from {
+    let n = text::unhex(case, &mut bytes);
+    let Some((_, numbers)) = case[2 * n..].split_first() else {
         return unknown(rt);
-    }
-    let end = text::find(line, from, b' ');
-    if end == line.len() {
+    };
+    let Some(end) = numbers.iter().position(|byte| *byte == b' ') else {
         return unknown(rt);
-    }
-    let number = text::decimal(&line[from..end]);
-    let rest = end + 1;
-    let code = (text::decimal(&line[rest..]) % 65536) as u16;
-    show::stepped(rt, step::step(&bytes[..n], number, code))
+    };
+    let number = text::decimal(&numbers[..end]);
+    // `as` narrows where the number is proved to fit; try_from would give a Result that never fails.
+    let code = (text::decimal(&numbers[end + 1..]) % 65536) as u16;
+    println!(rt; "{}", StepLine(step::step(&bytes[..n], number, code)))
 }
 
 fn run(rt: &impl Print, line: &[u8]) -> io::Result<()> {
-    if line.starts_with(b"check ") {
-        return check_case(rt, line);
+    if let Some(case) = line.strip_prefix(b"check ") {
+        return check_case(rt, case);
     }
-    if line.starts_with(b"step ") {
-        return step_case(rt, line);
+    if let Some(case) = line.strip_prefix(b"step ") {
+        return step_case(rt, case);
     }
     unknown(rt)
 }
 
+// A line feed ends a line, and the last one may go without.
 fn each_line(rt: &impl Print, s: &[u8]) -> io::Result<()> {
-    let mut at: usize = 0;
-    while at < s.len() {
-        let end = text::find(s, at, b'\n');
-        run(rt, &s[at..end])?;
-        at = end + 1;
+    for line in s.split_inclusive(|byte| *byte == b'\n') {
+        run(rt, line.strip_suffix(b"\n").unwrap_or(line))?;
     }
     Ok(())
 }

@@ -1,11 +1,13 @@
 -- What a look-up and an insertion do to the index.
 use mathlib.Core.Path.{◌≡◌, refl, sym, ap, subst, ◌∙◌}
 use mathlib.Core.List.{List}
+use mathlib.Core.Logic.{inl, inr}
 use Prim.Native.Nat.{ℕ, ◌+◌, ◌-◌, ◌≤◌, ◌<◌}
 use native.Mathlib.Omega.{arith}
 use native.Mathlib.Decide.{ℕ_discrete, dec_lt}
 use lib.ListN.{length, set}
 use lib.Seq.{get_or-set_same, get_or-set_other}
+use Rattle.std.specs.Prelude.{Some, None}
 use Rattle.walks.specs.Walk.{at}
 use Rattle.rising.specs.Place.{Place}
 use Rattle.explore.specs.Index.{Inserted, Stands, Index, Entered}
@@ -56,39 +58,39 @@ where_is n p k h l = elim (dec_lt k p) [
 module _ (N K I N' K' I' : List ℕ) (n x p : ℕ) (g : Index N K I n) (w : Place K n x p) (q : p < n → at K p ≡ x → ⊥)
     (k : Inserted K K' n p x) (i : Inserted I I' n p n) (same : (a : ℕ) → a < n → at N' a ≡ at N a) (last : at N' n ≡ x) where
   rise : (a b : ℕ) → a < b → b < n + 1 → Where n p a → Where n p b → at K' a < at K' b
-  rise a b h l (before u) (before v) = omega (arith, k.low a u, k.low b v, g.rising.rises a b h (omega (arith, w.within)))
-  rise a b h l (before u) (here v) = omega (arith, k.low a u, ap (at K') v, k.mid, w.below a u)
-  rise a b h l (before u) (after j e m v) = omega (arith, k.low a u, ap (at K') e, k.high j m v, w.below a u, w.above j m v)
+  rise a b h l (before u) (before v) = omega (arith, k.low a 0 u, k.low b 0 v, g.rising.rises a b h (omega (arith, w.within)))
+  rise a b h l (before u) (here v) = omega (arith, k.low a 0 u, ap (at K') v, k.mid 0, w.below a u)
+  rise a b h l (before u) (after j e m v) = omega (arith, k.low a 0 u, ap (at K') e, k.high j 0 m v, w.below a u, w.above j m v)
   rise a b h l (here u) (before v) = absurd (omega arith)
   rise a b h l (here u) (here v) = absurd (omega arith)
-  rise a b h l (here u) (after j e m v) = omega (arith, ap (at K') u, k.mid, ap (at K') e, k.high j m v, above N K I n x p g w q j m v)
+  rise a b h l (here u) (after j e m v) = omega (arith, ap (at K') u, k.mid 0, ap (at K') e, k.high j 0 m v, above N K I n x p g w q j m v)
   rise a b h l (after j e m v) (before u) = absurd (omega arith)
   rise a b h l (after j e m v) (here u) = absurd (omega arith)
   rise a b h l (after j e m v) (after j' e' m' v') =
-      omega (arith, ap (at K') e, k.high j m v, ap (at K') e', k.high j' m' v', g.rising.rises j j' (omega arith) v')
+      omega (arith, ap (at K') e, k.high j 0 m v, ap (at K') e', k.high j' 0 m' v', g.rising.rises j j' (omega arith) v')
 
   beneath : (a : ℕ) → Where n p a → at I' a < n + 1
-  beneath a (before u) = omega (arith, i.low a u, g.below a (omega (arith, w.within)))
-  beneath a (here u) = omega (arith, ap (at I') u, i.mid)
-  beneath a (after j e m v) = omega (arith, ap (at I') e, i.high j m v, g.below j v)
+  beneath a (before u) = omega (arith, i.low a 0 u, g.below a (omega (arith, w.within)))
+  beneath a (here u) = omega (arith, ap (at I') u, i.mid 0)
+  beneath a (after j e m v) = omega (arith, ap (at I') e, i.high j 0 m v, g.below j v)
 
   stays : (j : ℕ) → j < n → at N' (at I j) ≡ at K j
   stays j l = same (at I j) (g.below j l) ∙ sym (g.is j l)
 
   names : (a : ℕ) → Where n p a → at K' a ≡ at N' (at I' a)
-  names a (before u) = let l : a < n = omega (arith, w.within) in sym (ap (at N') (i.low a u) ∙ stays a l ∙ sym (k.low a u))
-  names a (here u) = sym (ap (λ (a : ℕ). at N' (at I' a)) u ∙ ap (at N') i.mid ∙ last ∙ sym k.mid ∙ sym (ap (at K') u))
+  names a (before u) = let l : a < n = omega (arith, w.within) in sym (ap (at N') (i.low a 0 u) ∙ stays a l ∙ sym (k.low a 0 u))
+  names a (here u) = sym (ap (λ (a : ℕ). at N' (at I' a)) u ∙ ap (at N') (i.mid 0) ∙ last ∙ sym (k.mid 0) ∙ sym (ap (at K') u))
   names a (after j e m v) =
-      sym (ap (λ (a : ℕ). at N' (at I' a)) e ∙ ap (at N') (i.high j m v) ∙ stays j v ∙ sym (k.high j m v) ∙ sym (ap (at K') e))
+      sym (ap (λ (a : ℕ). at N' (at I' a)) e ∙ ap (at N') (i.high j 0 m v) ∙ stays j v ∙ sym (k.high j 0 m v) ∙ sym (ap (at K') e))
 
   stand : (v : ℕ) → v < n + 1 → Stands I' (n + 1) v
   stand v h = elim (ℕ_discrete v n) [
-    | yes e ↦ record { place = p; below = omega (arith, w.within); is = i.mid ∙ sym e }
+    | yes e ↦ record { place = p; below = omega (arith, w.within); is = i.mid 0 ∙ sym e }
     | no z ↦
         let s : Stands I n v = g.onto v (omega arith) in
         elim (dec_lt s.place p) [
-          | yes l ↦ record { place = s.place; below = omega (arith, s.below); is = i.low s.place l ∙ s.is }
-          | no l ↦ record { place = s.place + 1; below = omega (arith, s.below); is = i.high s.place (omega arith) s.below ∙ s.is }
+          | yes l ↦ record { place = s.place; below = omega (arith, s.below); is = i.low s.place 0 l ∙ s.is }
+          | no l ↦ record { place = s.place + 1; below = omega (arith, s.below); is = i.high s.place 0 (omega arith) s.below ∙ s.is }
         ]
   ]
 
@@ -101,23 +103,19 @@ module _ (N K I N' K' I' : List ℕ) (n x p : ℕ) (g : Index N K I n) (w : Plac
   }
 
 -- ---- what `enter` comes to
-pub guessed : (N K I P : List ℕ) (n x m g : ℕ) → g < n → at N g ≡ x → Entered N K I P N K I P n x m g
-guessed N K I P n x m g h e = Entered.known record { below = h; is = e; nodes = refl; sorted = refl; order = refl; tree = refl }
-
 module _ (N K I P : List ℕ) (n x m p : ℕ) (g : Index N K I n) (w : Place K n x p) where
-  pub stood : p < n → at K p ≡ x → Entered N K I P N K I P n x m (at I p)
-  stood h e = Entered.known record {
+  pub stood : {j : ℕ} → p < n → at K p ≡ x → j ≡ at I p → Entered N K I P N K I P n x m (Some j)
+  stood h e f = subst (λ (j : ℕ). Entered N K I P N K I P n x m (Some j)) (sym f) (inl record {
     below = g.below p h;
     is = sym (g.is p h) ∙ e;
     nodes = refl;
     sorted = refl;
     order = refl;
     tree = refl;
-  }
+  })
 
-  pub filled : (p < n → at K p ≡ x → ⊥) → n ≡ 2048 → Entered N K I P N K I P n x m n
-  filled q e = Entered.full record {
-    last = e;
+  pub filled : (p < n → at K p ≡ x → ⊥) → n ≡ 2048 → Entered N K I P N K I P n x m None
+  filled q e = record {
     full = e;
     fresh = absent N K I n x p g w q;
     nodes = refl;
@@ -127,8 +125,8 @@ module _ (N K I P : List ℕ) (n x m p : ℕ) (g : Index N K I n) (w : Place K n
   }
 
   pub joins : (K' I' : List ℕ) → (p < n → at K p ≡ x → ⊥) → n < 2048 → 2048 ≤ length N → Inserted K K' n p x → Inserted I I' n p n
-      → Entered N K I P (set N n x) K' I' (set P n m) n x m n
-  joins K' I' q r h k i = Entered.added record {
+      → Entered N K I P (set N n x) K' I' (set P n m) n x m (Some n)
+  joins K' I' q r h k i = inr record {
     last = refl;
     room = r;
     fresh = absent N K I n x p g w q;

@@ -1,4 +1,3 @@
-pub mod ShiftLaws
 pub mod IndexLaws
 pub mod CountLaws
 pub mod SearchLaws

@@ -10,6 +10,7 @@ use lib.ListN.{length, drop, get_or}
 use lib.Seq.{get_or-drop, ext_get_or}
 use Rattle.automaton.specs.Priced.{Priced}
 use Rattle.automaton.proofs.Chains.{some_inj}
+use Rattle.std.specs.Prelude.{Ok, Err}
 use Rattle.sheet.specs.declared.Sheet.{Sheet}
 use Rattle.walks.specs.Walk.{at}
 use Rattle.contract.specs.Accepted.{Listed}
@@ -17,9 +18,8 @@ use Rattle.contract.specs.Explored.{ArcOf, Explored}
 use Rattle.contract.proofs.Rising.{same_entry}
 use Rattle.explore.specs.Buffers.{GraphBuffers, found}
 use Rattle.explore.specs.Index.{Index}
-use Rattle.explore.specs.Answer.{turn_of, turn_of_arc, BySource, Filled, IsStep, Stopped, QuestionTwelve, answered_no, answered_yes, ExploreAnswered}
-use Rattle.explore.specs.declared.Outcome.{Outcome}
-use Rattle.explore.specs.declared.Outcome.TheVariants.{Malformed, TooMany, Graph}
+use Rattle.explore.specs.Answer.{Outcome, turn_of, turn_of_arc, BySource, Filled, IsStep, Stopped, QuestionTwelve, answered_no, answered_yes, ExploreAnswered}
+use Rattle.explore.specs.declared.Unexplored.TheVariants.{Malformed, TooMany}
 use Rattle.explore.proofs.SearchLaws.{Searched}
 use Rattle.explore.proofs.LengthLaws.{Same}
 use Rattle.explore.proofs.OneSearch.{SameArc, SameNode, same_arcs, same_nodes, goes_on}
@@ -192,13 +192,14 @@ not_both (answered_no _ h) (answered_yes _ k) = k h
 -- two answers to one call, each with the buffers that it leaves, of the lengths that they had
 pub one_answer : (s : Sheet) (before after after' : GraphBuffers) (r r' : Outcome) → Same before after → Same before after'
     → ExploreAnswered s before after r → ExploreAnswered s before after' r' → (r ≡ r') × (after ≡ after')
-one_answer s before after after' Malformed Malformed w w' a a' = (refl, a.1 ∙ sym a'.1)
-one_answer s before after after' Malformed TooMany w w' a a' = absurd (a.0 a'.0.0)
-one_answer s before after after' Malformed (Graph n m) w w' a a' = absurd (a.0 a'.0.0)
-one_answer s before after after' TooMany Malformed w w' a a' = absurd (a'.0 a.0.0)
-one_answer s before after after' TooMany TooMany w w' a a' = (refl, one_stop w w' a.1 a'.1)
-one_answer s before after after' TooMany (Graph n m) w w' a a' = absurd (not_both a.0.1 a'.0.1)
-one_answer s before after after' (Graph n m) Malformed w w' a a' = absurd (a'.0 a.0.0)
-one_answer s before after after' (Graph n m) TooMany w w' a a' = absurd (not_both a'.0.1 a.0.1)
-one_answer s before after after' (Graph n m) (Graph n' m') w w' a a' =
-    let o = one_graph w w' (explored_search a.1.0 a.1.1) (explored_search a'.1.0 a'.1.1) in (ap₂ Graph o.0 o.1, o.2)
+one_answer s before after after' (Err Malformed) (Err Malformed) w w' a a' = (refl, a.1 ∙ sym a'.1)
+one_answer s before after after' (Err Malformed) (Err TooMany) w w' a a' = absurd (a.0 a'.0.0)
+one_answer s before after after' (Err Malformed) (Ok g) w w' a a' = absurd (a.0 a'.0.0)
+one_answer s before after after' (Err TooMany) (Err Malformed) w w' a a' = absurd (a'.0 a.0.0)
+one_answer s before after after' (Err TooMany) (Err TooMany) w w' a a' = (refl, one_stop w w' a.1 a'.1)
+one_answer s before after after' (Err TooMany) (Ok g) w w' a a' = absurd (not_both a.0.1 a'.0.1)
+one_answer s before after after' (Ok g) (Err Malformed) w w' a a' = absurd (a'.0 a.0.0)
+one_answer s before after after' (Ok g) (Err TooMany) w w' a a' = absurd (not_both a'.0.1 a.0.1)
+one_answer s before after after' (Ok g) (Ok g') w w' a a' =
+    let o = one_graph w w' (explored_search a.1.0 a.1.1) (explored_search a'.1.0 a'.1.1) in
+    (ap₂ (λ (n m : ℕ). Ok (record { nodes = n; arcs = m })) o.0 o.1, o.2)

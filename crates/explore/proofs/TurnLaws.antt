@@ -12,14 +12,14 @@ use Rattle.automaton.specs.Walks.{Reachable}
 use Rattle.automaton.proofs.Walks.{reach_step}
 use Rattle.walks.specs.Walk.{at}
 use Rattle.contract.specs.Explored.{ArcOf}
-use Rattle.region.specs.declared.Stepped.{Stepped}
+use Rattle.region.specs.declared.Step.{Step}
 use Rattle.explore.specs.Buffers.{GraphBuffers, found, HasRoom}
 use Rattle.explore.specs.Index.{Index, Known, Added}
 use Rattle.explore.specs.Answer.{SearchTree, Rest, IsStep}
 use Rattle.explore.proofs.ArcLaws.{led, Pushed}
 use Rattle.explore.proofs.SearchLaws.{Searched, up_to, kept, there, beyond, set_rest, next_turn}
 
-module _ (step : ℕ → ℕ → Option (Priced ℕ)) (start : ℕ) (b₀ b b' : GraphBuffers) (n m i k t : ℕ) (s : Stepped) (g : Searched step start b₀ b n m t)
+module _ (step : ℕ → ℕ → Option (Priced ℕ)) (start : ℕ) (b₀ b b' : GraphBuffers) (n m i k t : ℕ) (s : Step) (g : Searched step start b₀ b n m t)
     (long : HasRoom b) (hi : i < n) (hk : k < 34) (turn : t ≡ 34 * i + k) (leads : step (at b.node i) k ≡ some (led s)) where
   under : m < 69632
   under = omega (arith, g.few_arcs, g.few_nodes)

@@ -1,6 +1,6 @@
 -- What `explore` answers: 01's number, and what stands in the buffers. As the call finds them they are `before`, and as it leaves them
 -- `after`.
-use Rattle.std.specs.Prelude.{◌≡◌, ℕ, ◌+◌, ◌*◌, ◌≤◌, ◌<◌, ℤ, drop}
+use Rattle.std.specs.Prelude.{◌≡◌, ℕ, ◌+◌, ◌*◌, ◌≤◌, ◌<◌, ℤ, drop, Result, Ok, Err}
 use Rattle.std.proofs.Math.Option.{Option, none, some}
 use Rattle.automaton.specs.Priced.{Priced}
 use Rattle.sheet.specs.declared.Sheet.{Sheet}
@@ -10,14 +10,18 @@ use Rattle.contract.specs.Explored.{ArcOf, Explored, Overfull, step_read, start_
 use Rattle.explore.specs.Buffers.{GraphBuffers, found}
 use Rattle.explore.specs.Explorable.{Explorable}
 use Rattle.explore.specs.Index.{Index}
-use Rattle.explore.specs.declared.Outcome.{Outcome}
-use Rattle.explore.specs.declared.Outcome.TheVariants.{Malformed, TooMany, Graph}
+use Rattle.explore.specs.declared.Size.{Size}
+use Rattle.explore.specs.declared.Unexplored.{Unexplored}
+use Rattle.explore.specs.declared.Unexplored.TheVariants.{Malformed, TooMany}
+
+abbrev pub Outcome : Type 0
+Outcome = Result Size Unexplored
 
 -- the number of each outcome: that of question 12, or 0. A call that is not explorable has no number of 01's, and no plan gets it.
 abbrev pub outcome_number : Outcome → Option ℕ
-outcome_number Malformed = none
-outcome_number TooMany = some 12
-outcome_number (Graph n m) = some 0
+outcome_number (Err Malformed) = none
+outcome_number (Err TooMany) = some 12
+outcome_number (Ok g) = some 0
 
 -- ---- nodes and arcs in the buffers
 
@@ -107,9 +111,9 @@ module _ (s : Sheet) where
 
   -- what stands in the buffers
   abbrev pub ExploreLeft : GraphBuffers → GraphBuffers → Outcome → Type 0
-  ExploreLeft before after Malformed = after ≡ before
-  ExploreLeft before after TooMany = Stopped (step_read s) (start_read s) before after
-  ExploreLeft before after (Graph n m) = Explored (step_read s) (start_read s) (found after n m) × Filled before after n m
+  ExploreLeft before after (Err Malformed) = after ≡ before
+  ExploreLeft before after (Err TooMany) = Stopped (step_read s) (start_read s) before after
+  ExploreLeft before after (Ok g) = Explored (step_read s) (start_read s) (found after g.nodes g.arcs) × Filled before after g.nodes g.arcs
 
   -- This fixes the answer and every entry: explore/proofs/OneGraph.antt.
   abbrev pub ExploreAnswered : GraphBuffers → GraphBuffers → Outcome → Type 0

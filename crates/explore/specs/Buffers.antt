@@ -1,5 +1,5 @@
 -- The lists that `explore` fills.
-use Rattle.std.specs.Prelude.{Bool, ◌&&◌, List, ℕ, ◌≤◌, leb, ℤ, length}
+use Rattle.std.specs.Prelude.{List, ℕ, ◌≤◌, ℤ, length}
 use Rattle.contract.specs.Explored.{Found}
 
 pub record GraphBuffers : Type 0 where
@@ -35,7 +35,3 @@ pub record HasRoom (b : GraphBuffers) : Type 0 where
   pub code : 69632 ≤ length b.code
   pub cost : 69632 ≤ length b.cost
   pub reward : 69632 ≤ length b.reward
-
--- the same of lengths, as tests
-abbrev pub each_at_least : ℕ → ℕ → ℕ → ℕ → ℕ → Bool
-each_at_least least a b c d = leb least a && (leb least b && (leb least c && leb least d))

@@ -1,13 +1,13 @@
 -- A sorted index over a list of distinct numbers, and what a look-up does.
-use Rattle.std.specs.Prelude.{◌≡◌, List, ℕ, ◌+◌, ◌≤◌, ◌<◌, set, drop}
+use Rattle.std.specs.Prelude.{◌≡◌, ◌⊎◌, List, ℕ, ◌+◌, ◌≤◌, ◌<◌, get_or, set, drop, Option, Some, None}
 use Rattle.walks.specs.Walk.{at}
 use Rattle.rising.specs.Place.{Rising}
 
 -- L' is L with x put in at place p of the first n
-pub record Inserted (L L' : List ℕ) (n p x : ℕ) : Type 0 where
-  pub low : (a : ℕ) → a < p → at L' a ≡ at L a
-  pub mid : at L' p ≡ x
-  pub high : (a : ℕ) → p ≤ a → a < n → at L' (a + 1) ≡ at L a
+pub record Inserted {A : Type 0} (L L' : List A) (n p : ℕ) (x : A) : Type 0 where
+  pub low : (a : ℕ) (d : A) → a < p → get_or L' a d ≡ get_or L a d
+  pub mid : (d : A) → get_or L' p d ≡ x
+  pub high : (a : ℕ) (d : A) → p ≤ a → a < n → get_or L' (a + 1) d ≡ get_or L a d
   pub rest : drop (n + 1) L' ≡ drop (n + 1) L
 
 -- v stands in the first n of I
@@ -44,8 +44,7 @@ pub record Added (N K I P N' K' I' P' : List ℕ) (n y m j : ℕ) : Type 0 where
   pub order_rest : drop (n + 1) I' ≡ drop (n + 1) I
 
 -- y is new, and there is no room for it
-pub record Full (N K I P N' K' I' P' : List ℕ) (n y j : ℕ) : Type 0 where
-  pub last : j ≡ 2048
+pub record Full (N K I P N' K' I' P' : List ℕ) (n y : ℕ) : Type 0 where
   pub full : n ≡ 2048
   pub fresh : (a : ℕ) → a < n → at N a ≡ y → ⊥
   pub nodes : N' ≡ N
@@ -53,7 +52,7 @@ pub record Full (N K I P N' K' I' P' : List ℕ) (n y j : ℕ) : Type 0 where
   pub order : I' ≡ I
   pub tree : P' ≡ P
 
-pub data Entered (N K I P N' K' I' P' : List ℕ) (n y m j : ℕ) : Type 0 where
-  known : Known N K I P N' K' I' P' n y j → Entered N K I P N' K' I' P' n y m j
-  added : Added N K I P N' K' I' P' n y m j → Entered N K I P N' K' I' P' n y m j
-  full : Full N K I P N' K' I' P' n y j → Entered N K I P N' K' I' P' n y m j
+-- the place of y, or none where there is no room
+abbrev pub Entered : (N K I P N' K' I' P' : List ℕ) (n y m : ℕ) → Option ℕ → Type 0
+Entered N K I P N' K' I' P' n y m (Some j) = Known N K I P N' K' I' P' n y j ⊎ Added N K I P N' K' I' P' n y m j
+Entered N K I P N' K' I' P' n y m None = Full N K I P N' K' I' P' n y

@@ -1,38 +1,32 @@
-// The search: turn by turn, each code at each node found.
-ghost use Rattle.explore.specs.Buffers.{graph_buffers};
+// The search: turn by turn, each code at each node found. `as` narrows where the number is proved to fit; try_from would give a Result that never
+// fails.
 ghost use Rattle.explore.specs.Explorable.{Explorable};
+ghost use Rattle.explore.specs.Lists.{buffers_of, SameNodeLists, SameArcLists};
 ghost use Rattle.explore.specs.Answer.{ExploreAnswered};
 
-use crate::Outcome;
+use crate::arcs::ArcLists;
+use crate::index::NodeLists;
+use crate::{Size, Unexplored};
 use sheet::Sheet;
 
-// Turn t is the code t % 34 at the node t / 34.
+// Turn t is the code t % 34 at the node t / 34. The number of turns grows with the nodes, so that no range has them.
 pub(crate) fn search(
     sheet: Sheet,
-    nodes: &mut [u64],
-    sorted: &mut [u64],
-    order: &mut [u16],
-    tree: &mut [usize],
-    from: &mut [u16],
-    to: &mut [u16],
-    code: &mut [u16],
-    cost: &mut [i16],
-    reward: &mut [u16],
-) -> Outcome
-    requires { Explorable sheet (graph_buffers nodes.old sorted.old order.old tree.old from.old to.old code.old cost.old reward.old) }
-    ensures { ExploreAnswered sheet
-        (graph_buffers nodes.old sorted.old order.old tree.old
-        from.old to.old code.old cost.old reward.old)
-        (graph_buffers nodes.new sorted.new order.new tree.new
-        from.new to.new code.new cost.new reward.new) result }
+    nodes: &mut NodeLists,
+    arcs: &mut ArcLists,
+) -> Result<Size, Unexplored>
+    requires { Explorable sheet (buffers_of nodes.old arcs.old) }
+    ensures same_nodes { SameNodeLists nodes.old nodes.new }
+    ensures same_arcs { SameArcLists arcs.old arcs.new }
+    ensures answered { ExploreAnswered sheet (buffers_of nodes.old arcs.old) (buffers_of nodes.new arcs.new) result }
 {
     let written = sheet.edge;
     let edges = stepper::edge_records(written);
     let listed = sheet.location;
     let locations = stepper::location_records(listed);
-    nodes[0] = 0;
-    sorted[0] = 0;
-    order[0] = 0;
+    nodes.numbers[0] = 0;
+    nodes.sorted[0] = 0;
+    nodes.order[0] = 0;
     let mut hints = [0u16; 8192];
     let mut n = 1;
     let mut m = 0;
@@ -41,14 +35,14 @@ pub(crate) fn search(
         let i = t / 34;
         let k = t % 34;
         t += 1;
-        let x = nodes[i];
+        let x = nodes.numbers[i];
         let edge = edges[k % 32];
         if stepper::elsewhere(x, sheet.edition, k, edge.source) {
             continue;
         }
         let l = stepper::location_needed(x, sheet.edition, k, edge.target);
         let location = locations[l];
-        let s = stepper::step_at(
+        let Some(s) = stepper::step_at(
             x,
             k,
             sheet.edition,
@@ -56,23 +50,20 @@ pub(crate) fn search(
             sheet.edges,
             edge,
             location,
-        );
-        if s.refusal != 0 {
+        ) else {
             continue;
-        }
+        };
         let slot = crate::hints::slot(s.number);
         let hint = hints[slot];
-        let j = crate::index::enter(nodes, sorted, order, tree, n, s.number, m, hint);
-        if j == 2048 {
-            return Outcome::TooMany;
-        }
-        crate::arcs::set_ends(from, to, code, m, i, j, k);
-        crate::arcs::set_prices(cost, reward, m, s.cost, s.reward);
+        let Some(j) = nodes.enter(n, s.number, m, hint) else {
+            return Err(Unexplored::TooMany);
+        };
+        arcs.set(m, i as u16, j as u16, k as u16, s.cost, s.reward);
         m += 1;
         if j == n {
             hints[slot] = n as u16;
             n += 1;
         }
     }
-    Outcome::Graph(n, m)
+    Ok(Size { nodes: n, arcs: m })
 }

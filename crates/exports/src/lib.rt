@@ -1,5 +1,6 @@
 // The planner for programs in C and Rust, declared to them in bindings/. A slice crosses as a pointer and a count, a number to be written as a pointer.
-// Each function answers the refusal, and writes each of its numbers in every call; they are 0 where it refuses.
+// Each function answers the refusal, and writes each of its numbers in every call; they are 0 where it refuses. Numbers and not Results, and a
+// parameter for each number: the C interface.
 #![tactic(auto)]
 
 ghost use Rattle.std.specs.Prelude.{◌≡◌, pos};
@@ -10,30 +11,15 @@ ghost use Rattle.work.specs.Work.{lent_pairs};
 ghost use Rattle.exports.specs.ExportedPlan.{ExportedPlan};
 ghost use Rattle.exports.specs.ExportedWork.{ExportedWork};
 
-fn wide_u32(x: u32) -> i64
-    ensures { result ≡ pos x }
-{
-    x as i64
-}
-
-fn wide_u16(x: u16) -> i64
-    ensures { result ≡ pos x }
-{
-    x as i64
-}
-
-fn wide_i16(x: i16) -> i64
-    ensures { result ≡ x }
-{
-    x as i64
-}
-
 // The questions of the check: 2 to 10, 17 and 11.
 #[unsafe(no_mangle)]
 pub extern "C" fn planner_check(sheet: &[u8]) -> u8
     ensures { result ≡ check_of sheet.now }
 {
-    reader::check(sheet)
+    match reader::check(sheet) {
+        Ok(()) => 0,
+        Err(refused) => refused.number(),
+    }
 }
 
 // A single step: the new node's number, the cost, the reward and the units elapsed.
@@ -53,12 +39,22 @@ pub extern "C" fn planner_step(
     ensures reward_after { reward.new ≡ pos (step_of sheet.now node code).reward }
     ensures units_after { units.new ≡ pos (step_of sheet.now node code).units }
 {
-    let s = step::step(sheet, node, code);
-    *number = s.number;
-    *cost = wide_i16(s.cost);
-    *reward = wide_u16(s.reward);
-    *units = wide_u16(s.units);
-    s.refusal
+    match step::step(sheet, node, code) {
+        Ok(s) => {
+            *number = s.number;
+            *cost = i64::from(s.cost);
+            *reward = i64::from(s.reward);
+            *units = i64::from(s.units);
+            0
+        }
+        Err(refused) => {
+            *number = 0;
+            *cost = 0;
+            *reward = 0;
+            *units = 0;
+            refused.number()
+        }
+    }
 }
 
 // A plan: the ratio p / q, n reachable nodes, a stem of s steps and a cycle of m, and that cycle's units, cost and reward.
@@ -81,18 +77,30 @@ pub extern "C" fn planner_plan(
         (lent_buffers nodes.new potentials.new steps.new) result p.new q.new n.new
         s.new m.new units.new cost.new reward.new }
 {
-    let a = planner::plan(sheet, nodes, potentials, steps);
-    let upper = a.p;
-    *p = upper;
-    *q = wide_u32(a.q);
-    *n = wide_u16(a.n);
-    *s = wide_u16(a.s);
-    *m = wide_u16(a.m);
-    *units = wide_u16(a.units);
-    let spent = a.cost;
-    *cost = spent;
-    *reward = wide_u32(a.reward);
-    a.refusal
+    match planner::plan(sheet, nodes, potentials, steps) {
+        Ok(a) => {
+            *p = a.p;
+            *q = i64::from(a.q);
+            *n = i64::from(a.n);
+            *s = i64::from(a.s);
+            *m = i64::from(a.m);
+            *units = i64::from(a.units);
+            *cost = a.cost;
+            *reward = i64::from(a.reward);
+            0
+        }
+        Err(refused) => {
+            *p = 0;
+            *q = 0;
+            *n = 0;
+            *s = 0;
+            *m = 0;
+            *units = 0;
+            *cost = 0;
+            *reward = 0;
+            refused.number()
+        }
+    }
 }
 
 // A work plan in whole units: the numbers of pairs of its stem and of its cycle.
@@ -107,8 +115,16 @@ pub extern "C" fn planner_work(
     ensures { ExportedWork sheet.now (lent_pairs waits.old edges.old)
         (lent_pairs waits.new edges.new) result stem.new cycle.new }
 {
-    let a = work::work(sheet, waits, edges);
-    *stem = wide_u16(a.stem);
-    *cycle = wide_u16(a.cycle);
-    a.refusal
+    match work::work(sheet, waits, edges) {
+        Ok(a) => {
+            *stem = i64::from(a.stem);
+            *cycle = i64::from(a.cycle);
+            0
+        }
+        Err(refused) => {
+            *stem = 0;
+            *cycle = 0;
+            refused.number()
+        }
+    }
 }

@@ -1,10 +1,9 @@
 -- What `negative_cycle` answers. The buffers as the call finds them are `potential` and `cycle`, and as it leaves them `potential'` and `cycle'`.
-use Rattle.std.specs.Prelude.{◌≡◌, List, ℕ, ◌≤◌, ◌<◌, length, take, drop, ℤ}
+use Rattle.std.specs.Prelude.{◌≡◌, List, ℕ, ◌≤◌, ◌<◌, length, take, drop, ℤ, Option, Some, None, Result, Ok, Err}
 use Rattle.walks.specs.Walk.{atℤ}
 use Rattle.walks.specs.Weight.{weight_of, NegativeCycle, NoneNegative, PotentialOrMark}
 use Rattle.walks.specs.Form.{Graph, CoefficientsInRange}
-use Rattle.graph.specs.declared.Answer.{Answer}
-use Rattle.graph.specs.declared.Answer.TheVariants.{Malformed, Cycle, Potentials}
+use Rattle.walks.specs.declared.Malformed.{Malformed}
 
 -- the arguments: a graph of n nodes, coefficients in range, and n entries or more in each buffer
 pub record SearchArguments (F T : List ℕ) (cost : List ℤ) (reward : List ℕ) (a b c : ℤ) (n potentials arcs : ℕ) : Type 0 where
@@ -30,12 +29,12 @@ pub record PotentialsFound (F T : List ℕ) (weight : ℕ → ℤ) (n : ℕ) (po
   pub kept : cycle' ≡ cycle
 
 -- malformed arguments, and nothing is written; a cycle of k arcs; or potentials
-abbrev pub SearchAnswered : List ℕ → List ℕ → List ℤ → List ℕ → ℤ → ℤ → ℤ → ℕ → List ℤ → List ℤ → List ℕ → List ℕ → Answer → Type 0
-SearchAnswered F T cost reward a b c n potential potential' cycle cycle' Malformed =
+abbrev pub SearchAnswered : List ℕ → List ℕ → List ℤ → List ℕ → ℤ → ℤ → ℤ → ℕ → List ℤ → List ℤ → List ℕ → List ℕ → Result (Option ℕ) Malformed → Type 0
+SearchAnswered F T cost reward a b c n potential potential' cycle cycle' (Err _) =
     (SearchArguments F T cost reward a b c n (length potential) (length cycle) → ⊥) × (potential' ≡ potential) × (cycle' ≡ cycle)
-SearchAnswered F T cost reward a b c n potential potential' cycle cycle' (Cycle k) =
+SearchAnswered F T cost reward a b c n potential potential' cycle cycle' (Ok (Some k)) =
     SearchArguments F T cost reward a b c n (length potential) (length cycle)
     × CycleFound F T (weight_of a b c cost reward) n k potential potential' cycle cycle'
-SearchAnswered F T cost reward a b c n potential potential' cycle cycle' Potentials =
+SearchAnswered F T cost reward a b c n potential potential' cycle cycle' (Ok None) =
     SearchArguments F T cost reward a b c n (length potential) (length cycle)
     × PotentialsFound F T (weight_of a b c cost reward) n potential potential' cycle cycle'

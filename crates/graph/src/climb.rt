@@ -1,24 +1,24 @@
 // The climb along the parent arcs.
 ghost use Rattle.std.specs.Prelude.{◌≡◌, ◌<◌, length};
-ghost use Rattle.walks.specs.SearchTerms.{View, Climbed};
+ghost use Rattle.walks.specs.SearchTerms.{View};
+ghost use Rattle.graph.specs.Search.{ClimbedTo};
 
-use crate::entries;
-
-// The places of a list from start up to end.
-#[derive(Clone, Copy)]
-pub(crate) struct Part {
-    pub start: usize,
-    pub end: usize,
-}
+use std::ops::Range;
 
 // Climbs from v, marking as it goes. Back at a marked node, the arcs from there on are a cycle, and stand in a part of climbed;
-// at a node without a parent the part is empty. parent[v] is the parent arc of v and 1, or 0.
-pub(crate) fn climb(from: &[u16], parent: &[usize], climbed: &mut [usize], v: usize) -> Part
+// there is none at a node without a parent. parent[v] is the parent arc of v and 1, or 0, and so are marks: as an Option an entry would take twice the
+// room.
+pub(crate) fn climb(
+    from: &[u16],
+    parent: &[usize; 2048],
+    climbed: &mut [usize; 2048],
+    v: usize,
+) -> Option<Range<usize>>
     requires is_view { View from.now parent.now 2048 }
     requires in_view { v < 2048 }
     requires climbed_length { length climbed.old ≡ 2048 }
     ensures { (g : View from.now parent.now 2048) →
-        Climbed from.now g.T g.W g.m g.D g.st climbed.new 2048 v result.start result.end }
+        ClimbedTo from.now g.T g.W g.m g.D g.st climbed.new 2048 v result }
 {
     let mut mark = [0usize; 2048];
     let mut x = v;
@@ -26,13 +26,12 @@ pub(crate) fn climb(from: &[u16], parent: &[usize], climbed: &mut [usize], v: us
     while mark[x] == 0 {
         let p = parent[x];
         if p == 0 {
-            return Part { start: 0, end: 0 };
+            return None;
         }
         top -= 1;
         mark[x] = top + 1;
         climbed[top] = p - 1;
-        x = entries::entry(from, p - 1);
+        x = usize::from(from[p - 1]);
     }
-    let end = mark[x];
-    Part { start: top, end }
+    Some(top..mark[x])
 }

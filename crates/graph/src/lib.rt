@@ -1,15 +1,16 @@
 // A simple cycle of negative weight that a walk from node 0 reaches, or the potentials: the least weights of walks from node 0.
-// The arc e leads from from[e] to to[e], and weighs a * cost[e] + b * reward[e] + c.
+// The arc e weighs a * cost[e] + b * reward[e] + c.
 #![tactic(auto)]
 
 ghost use Rattle.graph.specs.Answer.{SearchAnswered};
 
+use walks::{Arcs, Malformed};
+
 mod climb;
-mod copy;
-mod entries;
 mod form;
 mod potentials;
 mod search;
+mod weight;
 
 #[derive(Clone, Copy)]
 pub struct Coefficients {
@@ -18,43 +19,20 @@ pub struct Coefficients {
     pub c: i64,
 }
 
-// Malformed arguments; or a cycle, by the number of its arcs; or the potentials.
-#[derive(Clone, Copy)]
-pub enum Answer {
-    Malformed,
-    Cycle(usize),
-    Potentials,
-}
-
-// A cycle's arcs are written in order to the front of cycle, the potentials to the front of potential, and nothing else is written.
+// The number of a negative cycle's arcs; or none, and the potentials. A cycle's arcs are written in order to the front of cycle, the
+// potentials to the front of potential, and nothing else is written.
 pub fn negative_cycle(
-    from: &[u16],
-    to: &[u16],
-    cost: &[i16],
-    reward: &[u16],
+    arcs: Arcs<'_>,
     k: Coefficients,
     nodes: usize,
     potential: &mut [i64],
     cycle: &mut [usize],
-) -> Answer
-    ensures { SearchAnswered from.now to.now cost.now reward.now k.a k.b k.c nodes
+) -> Result<Option<usize>, Malformed>
+    ensures { let g = arcs.entry in SearchAnswered g.from.now g.to.now g.cost.now g.reward.now k.a k.b k.c nodes
         potential.old potential.new cycle.old cycle.new result }
 {
-    if !form::well_formed(
-        from,
-        to,
-        cost,
-        reward,
-        k,
-        nodes,
-        potential.len(),
-        cycle.len(),
-    ) {
-        return Answer::Malformed;
+    if !form::well_formed(arcs, k, nodes, potential.len(), cycle.len()) {
+        return Err(Malformed);
     }
-    let arcs = search::search(from, to, cost, reward, k, nodes, potential, cycle);
-    if arcs == 0 {
-        return Answer::Potentials;
-    }
-    Answer::Cycle(arcs)
+    Ok(search::search(arcs, k, nodes, potential, cycle))
 }

@@ -1,4 +1,4 @@
-// Sums and comparisons of potentials, signed numbers of 64 bits. Their contracts speak of these raised to natural numbers.
+// Sums and comparisons of potentials, signed numbers of 64 bits. Each is a function, since their contracts speak of these raised to natural numbers.
 ghost use Rattle.std.specs.Prelude.{◌≡◌, ◌+◌, ◌<◌, ◌≤◌, length, set, nat_abs};
 ghost use Rattle.walks.specs.Walk.{at};
 ghost use Rattle.walks.specs.SearchNumbers.{raised, raised_all, Sum, Less, TooLow, bias, start, most, deep};

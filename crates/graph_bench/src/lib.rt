@@ -4,9 +4,11 @@
 ghost use Rattle.graph.specs.Answer.{SearchAnswered};
 ghost use Rattle.graph_bench.specs.Number.{search_answer};
 
-use graph::{Answer, Coefficients};
+use graph::Coefficients;
+use walks::{Arcs, Malformed};
 
 // 0 for potentials, 2049 for malformed arguments, else the number of a cycle's arcs.
+// Numbers and not a Result, and each slice by itself: the C interface.
 #[unsafe(no_mangle)]
 pub extern "C" fn graph_bench_negative_cycle(
     from: &[u16],
@@ -23,19 +25,15 @@ pub extern "C" fn graph_bench_negative_cycle(
     ensures { SearchAnswered from.now to.now cost.now reward.now a b c nodes
         potential.old potential.new cycle.old cycle.new (search_answer result) }
 {
-    let answer = graph::negative_cycle(
+    let arcs = Arcs {
         from,
         to,
         cost,
         reward,
-        Coefficients { a, b, c },
-        nodes,
-        potential,
-        cycle,
-    );
-    match answer {
-        Answer::Malformed => 2049,
-        Answer::Cycle(arcs) => arcs,
-        Answer::Potentials => 0,
+    };
+    match graph::negative_cycle(arcs, Coefficients { a, b, c }, nodes, potential, cycle) {
+        Err(Malformed) => 2049,
+        Ok(None) => 0,
+        Ok(Some(found)) => found,
     }
 }

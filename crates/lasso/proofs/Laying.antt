@@ -10,7 +10,7 @@ use Rattle.walks.specs.Walk.{at, ArcWalk, Distinct}
 use Rattle.walks.specs.Lasso.{ArcLasso, Tree, Stem}
 use Rattle.walks.proofs.Walks.{Cut, cut, walk_first}
 use Rattle.walks.proofs.Lassos.{lasso, join_at}
-use Rattle.walks.proofs.Trees.{slice_join, take_part}
+use Rattle.walks.proofs.Trees.{slice_join}
 use Rattle.lasso.specs.Answer.{LassoArguments, AlongTree, LaidOut}
 
 -- what is behind a copy stays
@@ -111,57 +111,81 @@ tree_of F T tree cycle n k room w = record {
   earlier = λ v h p. (w.tree_arcs v p h).earlier;
 }
 
--- a part of a list
-part_is : (a n : ℕ) (l : List ℕ) → a + n ≤ length l → take n (drop a l) ≡ slice a (a + n) l
-part_is a n l h = ap (λ (x : List ℕ). take n (drop a x)) (sym (take-length l)) ∙ take_part a n (length l) l h
+-- a part written over
+written : (d : List ℕ) (a n m : ℕ) (s y : List ℕ) → m ≡ n → y ≡ take n s → take a d ++ (y ++ drop m (drop a d)) ≡ paste d a s n
+written d a n m s y p q = rw (p, q) (ap (λ (r : List ℕ). take a d ++ (take n s ++ r)) (drop-drop n a d)
+    ∙ sym (append_assoc (take a d) (take n s) (drop (a + n) d)))
 
 -- what the three copies come to
-pub laid_out : (F T tree cycle path arcs arcs1 arcs2 arcs3 : List ℕ) (n k top turn s : ℕ) → length path ≡ 2048 → top ≤ 2048 → 2048 ≤ top + n → s ≡ 2048 - top
-    → turn < k → k ≤ length cycle → n + k ≤ length arcs → ((i : ℕ) → i < k → at F (at cycle turn) ≤ at F (at cycle i))
-    → ((i : ℕ) → i < turn → at F (at cycle turn) < at F (at cycle i))
-    → Stem F T (length F) 0 (slice top (length path) path) (at F (at cycle turn)) → AlongTree T tree (slice top (length path) path)
-    → arcs1 ≡ paste arcs 0 (take (2048 - top) (drop top path)) s → arcs2 ≡ paste arcs1 s (take (k - turn) (drop turn cycle)) (k - turn)
-    → arcs3 ≡ paste arcs2 (s + (k - turn)) cycle turn → LaidOut F T tree cycle n k s arcs arcs3
-laid_out F T tree cycle path arcs arcs1 arcs2 arcs3 n k top turn s lo ht hn es hk hc room least before stem along e1 e2 e3 = record {
-  turn = turn;
-  below = hk;
-  first = least;
-  earliest = before;
-  short = omega arith;
-  stem = subst (λ (l : List ℕ). Stem F T (length F) 0 l (at F (at cycle turn))) (sym front) stem;
-  along = subst (AlongTree T tree) (sym front) along;
-  turned = ap (slice s (s + k)) all ∙ laid_rest arcs x y cycle s (k - turn) turn long_x long_y fits enough k (omega arith);
-  rest = ap (drop (s + k)) all ∙ laid_behind arcs x y cycle s (k - turn) turn long_x long_y fits enough k (omega arith);
-}
-  where
-    x : List ℕ
-    x = slice top (length path) path
+module _ (F T tree cycle path arcs x1 x2 x3 : List ℕ) (n top turn s : ℕ) where
+  abbrev k : ℕ
+  k = length cycle
 
-    y : List ℕ
-    y = slice turn k cycle
+  -- where the second part of the cycle begins
+  abbrev b : ℕ
+  b = s + (k - turn)
 
-    is_x : take (2048 - top) (drop top path) ≡ x
-    is_x = let e : top + (2048 - top) ≡ length path = omega arith in
-        part_is top (2048 - top) path (omega arith) ∙ ap (λ (i : ℕ). slice top i path) e
+  abbrev first_laid : List ℕ
+  first_laid = x1 ++ drop s arcs
 
-    is_y : take (k - turn) (drop turn cycle) ≡ y
-    is_y = let e : turn + (k - turn) ≡ k = omega arith in part_is turn (k - turn) cycle (omega arith) ∙ ap (λ (i : ℕ). slice turn i cycle) e
+  abbrev two_laid : List ℕ
+  two_laid = take s first_laid ++ (x2 ++ drop (b - s) (drop s first_laid))
 
-    long_x : length x ≡ s
-    long_x = length-slice top (length path) path (omega arith) ∙ omega arith
+  abbrev all_laid : List ℕ
+  all_laid = take b two_laid ++ (x3 ++ drop (b + turn - b) (drop b two_laid))
 
-    long_y : length y ≡ k - turn
-    long_y = length-slice turn k cycle hc
+  pub laid_out : length path ≡ 2048 → top ≤ 2048 → 2048 ≤ top + n → s ≡ 2048 - top
+      → turn < length cycle → n + length cycle ≤ length arcs → ((i : ℕ) → i < length cycle → at F (at cycle turn) ≤ at F (at cycle i))
+      → ((i : ℕ) → i < turn → at F (at cycle turn) < at F (at cycle i))
+      → Stem F T (length F) 0 (slice top (length path) path) (at F (at cycle turn)) → AlongTree T tree (slice top (length path) path)
+      → x1 ≡ take (2048 - top) (drop top path) → x2 ≡ take (k - turn) (drop turn cycle) → x3 ≡ take turn cycle
+      → LaidOut F T tree cycle n k s arcs all_laid
+  laid_out lo ht hn es hk room least before stem along e1 e2 e3 = record {
+    turn = turn;
+    below = hk;
+    first = least;
+    earliest = before;
+    short = omega arith;
+    stem = subst (λ (l : List ℕ). Stem F T (length F) 0 l (at F (at cycle turn))) (sym front) stem;
+    along = subst (AlongTree T tree) (sym front) along;
+    turned = ap (slice s (s + k)) all ∙ laid_rest arcs x y cycle s (k - turn) turn long_x long_y fits enough k (omega arith);
+    rest = ap (drop (s + k)) all ∙ laid_behind arcs x y cycle s (k - turn) turn long_x long_y fits enough k (omega arith);
+  }
+    where
+      x : List ℕ
+      x = slice top (length path) path
 
-    fits : turn ≤ length cycle
-    fits = omega arith
+      y : List ℕ
+      y = slice turn k cycle
 
-    enough : s + (k - turn) + turn ≤ length arcs
-    enough = omega arith
+      is_x : drop top path ≡ x
+      is_x = ap (drop top) (sym (take-length path))
 
-    all : arcs3 ≡ paste (paste (paste arcs 0 x s) s y (k - turn)) (s + (k - turn)) cycle turn
-    all = e3 ∙ ap (λ (l : List ℕ). paste l (s + (k - turn)) cycle turn)
-        (e2 ∙ ap₂ (λ (l r : List ℕ). paste l s r (k - turn)) (e1 ∙ ap (λ (r : List ℕ). paste arcs 0 r s) is_x) is_y)
+      is_y : drop turn cycle ≡ y
+      is_y = ap (drop turn) (sym (take-length cycle))
 
-    front : take s arcs3 ≡ x
-    front = ap (take s) all ∙ laid_first arcs x y cycle s (k - turn) turn long_x long_y fits enough
+      long_x : length x ≡ s
+      long_x = length-slice top (length path) path (omega arith) ∙ omega arith
+
+      long_y : length y ≡ k - turn
+      long_y = length-slice turn k cycle (omega arith)
+
+      fits : turn ≤ length cycle
+      fits = omega arith
+
+      enough : s + (k - turn) + turn ≤ length arcs
+      enough = omega arith
+
+      d1 : first_laid ≡ paste arcs 0 x s
+      d1 = let z : 0 + s ≡ s = omega arith in
+          ap (λ (l : List ℕ). l ++ drop s arcs) (e1 ∙ ap₂ take (sym es) is_x) ∙ ap (λ (i : ℕ). take s x ++ drop i arcs) (sym z)
+
+      d2 : two_laid ≡ paste (paste arcs 0 x s) s y (k - turn)
+      d2 = written first_laid s (k - turn) (b - s) y x2 (omega arith) (e2 ∙ ap (take (k - turn)) is_y)
+          ∙ ap (λ (l : List ℕ). paste l s y (k - turn)) d1
+
+      all : all_laid ≡ paste (paste (paste arcs 0 x s) s y (k - turn)) b cycle turn
+      all = written two_laid b turn (b + turn - b) cycle x3 (omega arith) e3 ∙ ap (λ (l : List ℕ). paste l b cycle turn) d2
+
+      front : take s all_laid ≡ x
+      front = ap (take s) all ∙ laid_first arcs x y cycle s (k - turn) turn long_x long_y fits enough

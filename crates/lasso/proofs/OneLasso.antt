@@ -9,8 +9,8 @@ use Rattle.walks.specs.Walk.{at, ArcWalk}
 use Rattle.walks.specs.Lasso.{Forward}
 use Rattle.walks.proofs.Trees.{slice_join}
 use Rattle.lasso.specs.Answer.{AlongTree, LaidOut, LassoAnswered}
-use Rattle.lasso.specs.declared.Answer.{Answer}
-use Rattle.lasso.specs.declared.Answer.TheVariants.{Malformed, Laid}
+use Rattle.std.specs.Prelude.{Result, Ok, Err}
+use Rattle.walks.specs.declared.Malformed.{Malformed}
 
 -- a list is empty, or has a last entry
 data EmptyOrLast (l : List ℕ) : Type 0 where
@@ -116,9 +116,9 @@ module _ {F T tree cycle : List ℕ} {n k : ℕ} {arcs : List ℕ} (hk : k ≤ l
       long : s ≡ t
       long = sym (stem_sized hk l) ∙ ap length stems ∙ stem_sized hk o
 
-pub one_answer : (F T tree cycle : List ℕ) (n k : ℕ) (arcs x y : List ℕ) (a b : Answer)
+pub one_answer : (F T tree cycle : List ℕ) (n k : ℕ) (arcs x y : List ℕ) (a b : Result ℕ Malformed)
     → LassoAnswered F T tree cycle n k arcs x a → LassoAnswered F T tree cycle n k arcs y b → (a ≡ b) × (x ≡ y)
-one_answer F T tree cycle n k arcs x y Malformed Malformed z w = (refl, z.1 ∙ sym w.1)
-one_answer F T tree cycle n k arcs x y Malformed (Laid t) z w = absurd (z.0 w.0)
-one_answer F T tree cycle n k arcs x y (Laid s) Malformed z w = absurd (w.0 z.0)
-one_answer F T tree cycle n k arcs x y (Laid s) (Laid t) z w = let o = one_lasso z.0.cycle_room z.1 w.1 in (ap Laid o.0, o.1)
+one_answer F T tree cycle n k arcs x y (Err m) (Err o) z w = (refl, z.1 ∙ sym w.1)
+one_answer F T tree cycle n k arcs x y (Err _) (Ok t) z w = absurd (z.0 w.0)
+one_answer F T tree cycle n k arcs x y (Ok s) (Err _) z w = absurd (w.0 z.0)
+one_answer F T tree cycle n k arcs x y (Ok s) (Ok t) z w = let o = one_lasso z.0.cycle_room z.1 w.1 in (ap Ok o.0, o.1)

@@ -1,10 +1,9 @@
 -- What `lasso_of` answers. The buffer as the call finds it is `arcs`, and as it leaves it `arcs'`.
-use Rattle.std.specs.Prelude.{◌≡◌, List, [], ◌∷◌, ◌++◌, ℕ, ◌+◌, ◌≤◌, ◌<◌, length, take, drop}
+use Rattle.std.specs.Prelude.{◌≡◌, List, [], ◌∷◌, ◌++◌, ℕ, ◌+◌, ◌≤◌, ◌<◌, length, take, drop, Result, Ok, Err}
 use Rattle.std.proofs.Math.Seq.{slice}
 use Rattle.walks.specs.Walk.{at}
 use Rattle.walks.specs.Lasso.{Stem}
-use Rattle.lasso.specs.declared.Answer.{Answer}
-use Rattle.lasso.specs.declared.Answer.TheVariants.{Malformed, Laid}
+use Rattle.walks.specs.declared.Malformed.{Malformed}
 
 -- the tree arc of node v leads to v from an earlier node
 pub record TreeArc (F T tree : List ℕ) (v : ℕ) : Type 0 where
@@ -47,7 +46,7 @@ pub record LaidOut (F T tree cycle : List ℕ) (n k s : ℕ) (arcs arcs' : List 
   pub turned : slice s (s + k) arcs' ≡ slice turn k cycle ++ take turn cycle
   pub rest : drop (s + k) arcs' ≡ drop (s + k) arcs
 
--- Questions are not asked here, so neither answer has a number of 01's: no plan gets `Malformed`, and the s of `Laid` is the plan's s.
-abbrev pub LassoAnswered : List ℕ → List ℕ → List ℕ → List ℕ → ℕ → ℕ → List ℕ → List ℕ → Answer → Type 0
-LassoAnswered F T tree cycle n k arcs arcs' Malformed = (LassoArguments F T tree cycle n k (length arcs) → ⊥) × (arcs' ≡ arcs)
-LassoAnswered F T tree cycle n k arcs arcs' (Laid s) = LassoArguments F T tree cycle n k (length arcs) × LaidOut F T tree cycle n k s arcs arcs'
+-- Questions are not asked here, so neither answer has a number of 01's: no plan gets an `Err`, and the s of `Ok` is the plan's s.
+abbrev pub LassoAnswered : List ℕ → List ℕ → List ℕ → List ℕ → ℕ → ℕ → List ℕ → List ℕ → Result ℕ Malformed → Type 0
+LassoAnswered F T tree cycle n k arcs arcs' (Err _) = (LassoArguments F T tree cycle n k (length arcs) → ⊥) × (arcs' ≡ arcs)
+LassoAnswered F T tree cycle n k arcs arcs' (Ok s) = LassoArguments F T tree cycle n k (length arcs) × LaidOut F T tree cycle n k s arcs arcs'

@@ -4,9 +4,9 @@ pub mod NumberLaws
 pub mod LayoutLaws
 pub mod QuestionLaws
 pub mod CheckedLaws
+pub mod CheckNumberLaws
 pub mod AgreeLaws
 pub mod DecodedLaws
-pub mod CheckNumberLaws
 pub mod RecordBytes
 pub mod SameEdgeLaws
 pub mod DistinctLaws

@@ -3,6 +3,7 @@
 
 mod show;
 
+use show::Answer;
 use std::io;
 
 // One byte more than the longest sheet, so that a longer input is seen to be too long.
@@ -12,6 +13,6 @@ fn main(rt: HostRuntime) -> io::Result<()> {
     let mut potentials = [0i64; 2048];
     let mut steps = [0u16; 2048];
     let n = input::read_full(&mut rt.reader(), &mut sheet)?;
-    let answer = planner::plan(&sheet[..n], &mut nodes, &mut potentials, &mut steps);
-    show::answer(&rt, answer)
+    let answer = Answer(planner::plan(&sheet[..n], &mut nodes, &mut potentials, &mut steps));
+    println!(rt; "{answer}")
 }

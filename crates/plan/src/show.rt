@@ -1,16 +1,17 @@
 // An answer, as it is printed.
-use planner::Answer;
-use std::io;
+use planner::Plan;
+use refusals::Refusal;
+use std::fmt::{self, Display};
 
-// The ratio and the number of nodes.
-fn accepted(rt: &impl Print, p: i64, q: u64, n: u64) -> io::Result<()> {
-    println!(rt; "ratio {p} {q}")?;
-    println!(rt; "nodes {n}")
-}
+// The ratio and the number of nodes, or the number of the refusal.
+#[derive(Drop)]
+pub(crate) struct Answer(pub(crate) Result<Plan, Refusal>);
 
-pub(crate) fn answer(rt: &impl Print, answer: Answer) -> io::Result<()> {
-    if answer.refusal == 0 {
-        return accepted(rt, answer.p, answer.q as u64, answer.n as u64);
+impl Display for Answer {
+    fn fmt<W: fmt::Write>(&self, f: &mut fmt::Formatter<W>) -> fmt::Result {
+        match self.0 {
+            Ok(Plan { p, q, n, .. }) => write!(f, "ratio {p} {q}\nnodes {n}"),
+            Err(refusal) => write!(f, "refused {}", refusal.number()),
+        }
     }
-    println!(rt; "refused {}", answer.refusal)
 }

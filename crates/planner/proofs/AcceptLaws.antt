@@ -78,17 +78,17 @@ module _ {F T C : List ℕ} {Z : List ℤ} {R order tree cycle : List ℕ} {D : 
   }
 
   -- with the numerator as it is read back, and the sums of the cycle
-  pub accepted_planned : {a : Answer} {z : ℤ} {j : ℕ} {sums : Sums} → z ≡ p → j ≡ s + k → SumsOf C Z R arcs' s j sums
+  pub accepted_planned : {a : Answer} {z : ℤ} {sums : Sums} → z ≡ p → SumsOf C Z R turned sums
       → a ≡ ContractTerms.accepted z q n s k sums.units sums.cost sums.reward → Planned o.of_sheet.bytes o.of_sheet.before after a
-  accepted_planned {a} {z} {j} {sums} same there summed e = subst (Planned o.of_sheet.bytes o.of_sheet.before after)
+  accepted_planned {a} {z} {sums} same summed e = subst (Planned o.of_sheet.bytes o.of_sheet.before after)
       ((λ i. ContractTerms.accepted (sym same i) q n (stem_sized i) (turned_sized i) (sym units i) (sym cost i) (sym reward i)) ∙ sym e)
       (accepted o.of_sheet.bytes o.of_sheet.before after g p q D order stem turned hand)
     where
       units : sums.units ≡ units_over g turned
-      units = summed.units ∙ ap (λ (j : ℕ). units_over g (slice s j arcs')) there
+      units = summed.units
 
       cost : sums.cost ≡ cost_of g turned
-      cost = summed.cost ∙ ap (λ (j : ℕ). cost_of g (slice s j arcs')) there
+      cost = summed.cost
 
       reward : sums.reward ≡ reward_of g turned
-      reward = summed.reward ∙ ap (λ (j : ℕ). reward_of g (slice s j arcs')) there
+      reward = summed.reward

@@ -1,4 +1,3 @@
-pub mod PickedLaws
 pub mod SumLaws
 pub mod LassoLaws
 pub mod AcceptLaws

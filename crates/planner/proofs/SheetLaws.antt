@@ -1,11 +1,12 @@
 -- What `explore` answered of a sheet, with its buffers cut to the arcs.
-use mathlib.Core.Path.{◌≡◌, refl, sym, ◌∙◌, subst}
+use mathlib.Core.Path.{◌≡◌, refl, sym, ap, ◌∙◌, subst}
 use mathlib.Core.List.{List}
 use Prim.Native.Nat.{ℕ, ◌≤◌, ◌<◌}
 use native.Mathlib.Omega.{arith}
-use lib.IntN.{pos}
+use lib.IntN.{ℤ, pos}
 use lib.ListN.{length, take, replicate}
 use lib.Seq.{get_or-take, length-take-le}
+use Rattle.std.specs.Prelude.{Ok, Err}
 use Rattle.sheet.specs.declared.Sheet.{Sheet}
 use Rattle.sheet.proofs.AcceptedLaws.{header}
 use Rattle.nodes.proofs.DecodedLaws.{read_passed}
@@ -14,14 +15,14 @@ use Rattle.lasso.specs.Answer.{TreeArc}
 use Rattle.ratio.proofs.RatioAnswerLaws.{room}
 use Rattle.contract.specs.Plan as Contract
 use Rattle.contract.specs.Plan.{step_on, start_of}
-use Rattle.contract.specs.Explored.{Explored, Overfull, step_read, start_read, Sorted}
-use Rattle.contract.proofs.Graphs.{Room, cut, explored_cut, graph}
+use Rattle.contract.specs.Explored.{Explored, Overfull, step_read, start_read}
+use Rattle.contract.proofs.Graphs.{Room, explored_cut, graph}
 use Rattle.contract.proofs.DecodedSheets.{explored_read, overfull_read}
 use Rattle.explore.specs.Buffers.{GraphBuffers, graph_buffers, found, HasRoom}
 use Rattle.explore.specs.Explorable.{Explorable}
-use Rattle.explore.specs.Answer.{Filled, ExploreAnswered}
-use Rattle.explore.specs.declared.Outcome.{Outcome}
-use Rattle.explore.specs.declared.Outcome.TheVariants.{Malformed, TooMany, Graph}
+use Rattle.explore.specs.Answer.{Outcome, Filled, ExploreAnswered}
+use Rattle.explore.specs.declared.Unexplored.TheVariants.{Malformed, TooMany}
+use Rattle.explore.proofs.LengthLaws.{Same}
 use Rattle.planner.specs.PrivatePromises.{ReadFrom, Handed, OfSheet}
 
 -- the buffers as `explore` finds them: new ones, but for the lent one that takes the numbers in rising order
@@ -42,6 +43,17 @@ fresh_long N h = record {
   reward = room {A = ℕ} 69632 0 (omega arith);
 }
 
+-- the lists that `explore` left, by the names that the planner has for them
+pub record Named (b : GraphBuffers) (F T C : List ℕ) (Z : List ℤ) (R I P N : List ℕ) : Type 0 where
+  pub from : F ≡ b.from
+  pub to : T ≡ b.to
+  pub code : C ≡ b.code
+  pub cost : Z ≡ b.cost
+  pub reward : R ≡ b.reward
+  pub order : I ≡ b.order
+  pub tree : P ≡ b.tree
+  pub sorted : N ≡ b.sorted
+
 -- a sheet that was read from checked bytes can be explored
 explorable : (read : Sheet) (b : GraphBuffers) → ReadFrom read → HasRoom b → Explorable read b
 explorable read b o room =
@@ -53,14 +65,14 @@ module _ (read : Sheet) (N : List ℕ) (b : GraphBuffers) (A : Outcome) (z : Exp
   abbrev Is : Outcome → Type 0
   Is = ExploreAnswered read (fresh N) b
 
-  pub never : A ≡ Malformed → ReadFrom read → 2048 ≤ length N → ⊥
+  pub never : A ≡ Err Malformed → ReadFrom read → 2048 ≤ length N → ⊥
   never e o h = (subst Is e z).0 (explorable read (fresh N) o (fresh_long N h))
 
-  pub overfull : A ≡ TooMany → (o : ReadFrom read) → Overfull (step_on o.bytes) (start_of o.bytes) b.node
+  pub overfull : A ≡ Err TooMany → (o : ReadFrom read) → Overfull (step_on o.bytes) (start_of o.bytes) b.node
   overfull e o = overfull_read o.bytes o.checked
       (subst (λ (s : Sheet). Overfull (step_read s) (start_read s) b.node) o.is (subst Is e z).1.overfull)
 
-  module _ (n m : ℕ) (e : A ≡ Graph n m) where
+  module _ (n m : ℕ) (e : A ≡ Ok (record { nodes = n; arcs = m })) where
     pub filled : Filled (fresh N) b n m
     filled = (subst Is e z).1.1
 
@@ -71,9 +83,23 @@ module _ (read : Sheet) (N : List ℕ) (b : GraphBuffers) (A : Outcome) (z : Exp
     pub few_arcs : (o : ReadFrom read) → m ≤ 69632
     few_arcs o = omega (arith, filled.few_arcs, (explored o).few)
 
-    module _ (o : ReadFrom read) (r : Room (found b n m)) (codes : m ≤ length b.code) (order : n ≤ length b.order) (tree : n ≤ length b.tree) where
+    module _ (o : ReadFrom read) (long : 2048 ≤ length N) (kept : Same (fresh N) b) where
+      pub room_left : Room (found b n m)
+      room_left =
+          let few = few_arcs o in
+          let before = fresh_long N long in record {
+            from = omega (arith, few, kept.from, before.from);
+            to = omega (arith, few, kept.to, before.to);
+            cost = omega (arith, few, kept.cost, before.cost);
+            reward = omega (arith, few, kept.reward, before.reward);
+            few = few;
+          }
+
+      pub codes_left : m ≤ length b.code
+      codes_left = omega (arith, few_arcs o, kept.code, (fresh_long N long).code)
+
       arcs : length (take m b.from) ≡ m
-      arcs = length-take-le m b.from r.from
+      arcs = length-take-le m b.from room_left.from
 
       tree_arc : (v : ℕ) → 0 < v → v < n → TreeArc (take m b.from) (take m b.to) b.tree v
       tree_arc v p h = let l = filled.tree.arc v h p in record {
@@ -82,26 +108,48 @@ module _ (read : Sheet) (N : List ℕ) (b : GraphBuffers) (A : Outcome) (z : Exp
         earlier = omega (arith, get_or-take m b.from (at b.tree v) 0 l, filled.tree.earlier v h p);
       }
 
-      pub handed : Handed (take m b.from) (take m b.to) (take m b.code) (take m b.cost) (take m b.reward) b.order b.tree n
-      handed = record {
-        graph = graph o.bytes o.checked r (explored o);
-        codes = length-take-le m b.code codes ∙ sym arcs;
-        ordered = order;
-        order_below = filled.index.below;
-        tree_room = tree;
-        tree_arcs = tree_arc;
-      }
+      few_nodes : n ≤ 2048
+      few_nodes = omega (arith, (explored o).few)
 
-      abbrev pub of_sheet : (before lent : Contract.Buffers) → Contract.LongEnough before → Contract.SameLengths lent before → lent.nodes ≡ b.sorted
-          → OfSheet (take m b.from) (take m b.to) (take m b.code) (take m b.cost) (take m b.reward) b.order n lent
-      of_sheet before lent long same is = record {
-        bytes = o.bytes;
-        before = before;
-        node = b.node;
-        checked = o.checked;
-        long = long;
-        lengths = same;
-        explored = explored_cut r (explored o);
-        sorted = subst (Sorted (cut (found b n m)) b.order) (sym is)
-            (record { below = filled.index.below; is = filled.index.is; rising = filled.index.rising.rises });
-      }
+      tree_sized : length (take n b.tree) ≡ n
+      tree_sized = length-take-le n b.tree (omega (arith, few_nodes, kept.tree, (fresh_long N long).tree))
+
+      order_sized : length (take n b.order) ≡ n
+      order_sized = length-take-le n b.order (omega (arith, few_nodes, kept.order, (fresh_long N long).order))
+
+      pub ordered_at : (i : ℕ) → i < n → at (take n b.order) i ≡ at b.order i
+      ordered_at i h = get_or-take n b.order i 0 h
+
+      tree_cut : (v : ℕ) → 0 < v → v < n → TreeArc (take m b.from) (take m b.to) (take n b.tree) v
+      tree_cut v p h = let t = tree_arc v p h in let e = get_or-take n b.tree v 0 h in record { arc = rw e t.arc; ends = rw e t.ends; earlier = rw e t.earlier }
+
+      module _ {F T C : List ℕ} {Z : List ℤ} {R I P K : List ℕ} (w : Named b F T C Z R I P K) where
+        pub handed : Handed (take m F) (take m T) (take m C) (take m Z) (take m R) (take n I) (take n P) (length (take n P))
+        handed = rw (w.from, w.to, w.code, w.cost, w.reward, w.order, w.tree) (subst (Handed (take m b.from) (take m b.to) (take m b.code) (take m b.cost) (take m b.reward) (take n b.order) (take n b.tree)) (sym tree_sized) (record {
+          graph = graph o.bytes o.checked room_left (explored o);
+          codes = length-take-le m b.code codes_left ∙ sym arcs;
+          ordered = order_sized;
+          order_below = λ i h. omega (arith, ordered_at i h, filled.index.below i h);
+          tree_room = omega (arith, tree_sized);
+          tree_arcs = tree_cut;
+        }))
+
+        pub cut_nodes : length (take n P) ≡ n
+        cut_nodes = rw w.tree tree_sized
+
+        abbrev pub of_sheet : (before : Contract.Buffers) → Contract.LongEnough before → N ≡ before.nodes
+            → OfSheet (take m F) (take m T) (take m C) (take m Z) (take m R) (take n I) (length (take n P)) (record before { nodes = K })
+        of_sheet before enough is = record {
+          bytes = o.bytes;
+          before = before;
+          node = b.node;
+          checked = o.checked;
+          long = enough;
+          lengths = record { nodes = ap length w.sorted ∙ kept.sorted ∙ ap length is; potentials = refl; steps = refl };
+          explored = rw (cut_nodes, w.from, w.to, w.code, w.cost, w.reward) (explored_cut room_left (explored o));
+          sorted = rw (cut_nodes, w.from, w.to, w.code, w.cost, w.reward, w.order, w.sorted) (record {
+            below = λ i h. rw (ordered_at i h) (filled.index.below i h);
+            is = λ i h. rw (ordered_at i h) (filled.index.is i h);
+            rising = filled.index.rising.rises;
+          });
+        }

@@ -1,6 +1,5 @@
 -- What the private functions are handed, and what they promise each other. Only private functions go by this file.
 use Rattle.std.specs.Prelude.{◌≡◌, List, ℕ, ◌≤◌, ◌<◌, ℤ, length, get_or, take}
-use Rattle.std.proofs.Math.Seq.{slice}
 use Rattle.automaton.specs.Times.{units_of}
 use Rattle.sheet.specs.Questions.{check_of}
 use Rattle.sheet.specs.Decoded.{read_of}
@@ -40,7 +39,7 @@ pub record ReadFrom (read : Sheet) : Type 0 where
 pub record Handed (F T C : List ℕ) (Z : List ℤ) (R order tree : List ℕ) (n : ℕ) : Type 0 where
   pub graph : Graph F T Z R n
   pub codes : length C ≡ length F
-  pub ordered : n ≤ length order
+  pub ordered : length order ≡ n
   pub order_below : (i : ℕ) → i < n → at order i < n
   pub tree_room : n ≤ length tree
   pub tree_arcs : (v : ℕ) → 0 < v → v < n → Lasso.TreeArc F T tree v
@@ -68,7 +67,7 @@ pub record Cyclic (F T C : List ℕ) (Z : List ℤ) (R order tree cycle : List �
   pub codes : length C ≡ length F
   pub costs : length Z ≡ length F
   pub rewards : length R ≡ length F
-  pub ordered : n ≤ length order
+  pub ordered : length order ≡ n
   pub order_below : (i : ℕ) → i < n → at order i < n
 
 -- the graph is that of a sheet, and p/q is the least ratio, with the potentials and the cycle that were found with it
@@ -80,20 +79,18 @@ pub record Solved (F T C : List ℕ) (Z : List ℤ) (R order : List ℕ) (D : Li
 
 -- ---- the sums along the cycle
 
--- the arcs from one place up to another are there, and few enough for their sums to fit
-pub record Summable (C : List ℕ) (Z : List ℤ) (R arcs : List ℕ) (from to : ℕ) : Type 0 where
-  pub ordered : from ≤ to
-  pub room : to ≤ length arcs
-  pub few : to ≤ 2048
-  pub codes : (i : ℕ) → i < to → at arcs i < length C
-  pub costs : (i : ℕ) → i < to → at arcs i < length Z
-  pub rewards : (i : ℕ) → i < to → at arcs i < length R
+-- the arcs are there, and few enough for their sums to fit
+pub record Summable (C : List ℕ) (Z : List ℤ) (R cycle : List ℕ) : Type 0 where
+  pub few : length cycle ≤ 2048
+  pub codes : (i : ℕ) → i < length cycle → at cycle i < length C
+  pub costs : (i : ℕ) → i < length cycle → at cycle i < length Z
+  pub rewards : (i : ℕ) → i < length cycle → at cycle i < length R
 
 -- their units, by the code of each, their cost and their reward
-pub record SumsOf (C : List ℕ) (Z : List ℤ) (R arcs : List ℕ) (from to : ℕ) (r : Sums) : Type 0 where
-  pub units : r.units ≡ total (λ e. units_of (at C e)) (slice from to arcs)
-  pub cost : r.cost ≡ sum (atℤ Z) (slice from to arcs)
-  pub reward : r.reward ≡ total (at R) (slice from to arcs)
+pub record SumsOf (C : List ℕ) (Z : List ℤ) (R cycle : List ℕ) (r : Sums) : Type 0 where
+  pub units : r.units ≡ total (λ e. units_of (at C e)) cycle
+  pub cost : r.cost ≡ sum (atℤ Z) cycle
+  pub reward : r.reward ≡ total (at R) cycle
 
 -- ---- what the plan comes to
 

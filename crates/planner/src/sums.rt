@@ -1,8 +1,9 @@
 // What the cycle of a lasso takes, costs and earns.
-ghost use Rattle.std.specs.Prelude.{◌≡◌, ◌≤◌, ◌<◌, nat_abs, length};
+ghost use Rattle.std.specs.Prelude.{◌≡◌, ◌≤◌};
 ghost use Rattle.automaton.specs.Times.{units_of};
-ghost use Rattle.walks.specs.Walk.{at, atℤ};
 ghost use Rattle.planner.specs.PrivatePromises.{Summable, SumsOf};
+
+use crate::graphs::SheetGraph;
 
 // The units, the cost and the reward.
 #[derive(Clone, Copy)]
@@ -25,48 +26,21 @@ fn units_of(code: u16) -> u16
     }
 }
 
-fn cost_of(cost: &[i16], e: usize) -> i64
-    requires { e < length cost.now }
-    ensures value { result ≡ atℤ cost.now e }
-    ensures small { nat_abs result ≤ 32768 }
+pub(crate) fn sums_of(graph: SheetGraph<'_>, cycle: &[usize]) -> Sums
+    requires { Summable graph.code.now graph.arcs.cost.now graph.arcs.reward.now cycle.now }
+    ensures { let g = graph.entry in SumsOf g.code.now g.arcs.cost.now g.arcs.reward.now cycle.now result }
 {
-    cost[e] as i64
-}
-
-fn reward_of(reward: &[u16], e: usize) -> u32
-    requires { e < length reward.now }
-    ensures value { result ≡ at reward.now e }
-    ensures small { result < 65536 }
-{
-    reward[e] as u32
-}
-
-// The sums over the arcs from one place up to another.
-pub(crate) fn sums_of(
-    code: &[u16],
-    cost: &[i16],
-    reward: &[u16],
-    arcs: &[usize],
-    from: usize,
-    to: usize,
-) -> Sums
-    requires { Summable code.now cost.now reward.now arcs.now from to }
-    ensures { SumsOf code.now cost.now reward.now arcs.now from to result }
-{
-    let mut units: u16 = 0;
-    let mut costs: i64 = 0;
-    let mut rewards: u32 = 0;
-    let mut i = to;
-    while from < i {
-        i -= 1;
-        let e = arcs[i];
-        units = units_of(code[e]) + units;
-        costs = cost_of(cost, e) + costs;
-        rewards = reward_of(reward, e) + rewards;
+    let mut units = 0;
+    let mut cost = 0;
+    let mut reward = 0;
+    for e in cycle {
+        units += units_of(graph.code[*e]);
+        cost += i64::from(graph.arcs.cost[*e]);
+        reward += u32::from(graph.arcs.reward[*e]);
     }
     Sums {
         units,
-        cost: costs,
-        reward: rewards,
+        cost,
+        reward,
     }
 }

@@ -1,11 +1,11 @@
 -- How large the cost and the reward of a simple cycle can be, and what the code may sum up.
-use mathlib.Core.Path.{◌≡◌, sym, subst, ◌∙◌}
+use mathlib.Core.Path.{◌≡◌, sym, ◌∙◌}
 use mathlib.Core.List.{List, [], ◌∷◌}
 use Prim.Native.Nat.{ℕ, ◌*◌, ◌/◌, ◌≤◌, ◌<◌}
 use native.Mathlib.Omega.{arith}
 use lib.ListN.{length, take}
 use lib.IntN.{ℤ, pos, nat_abs, *ℤ_comm}
-use lib.Seq.{length-take-le, get_or-take}
+use lib.Seq.{length-take-le}
 use Rattle.integers.specs.Lowest.{Gcd, signed_as}
 use Rattle.integers.proofs.Products.{abs_add}
 use Rattle.integers.proofs.Reduction.{lowest, same_ratio, no_larger}
@@ -35,17 +35,15 @@ module _ {F T : List ℕ} {cost : List ℤ} {reward : List ℕ} {n : ℕ} (g : G
     pub hand_reward : total (at reward) (take k hand) ≤ 20480000
     hand_reward = omega (arith, reward_bound h.cycle.hub (take k hand) h.cycle.hub h.cycle.cycle.walk, arcs, h.short, g.nodes)
 
-    pub hand_arc : (i : ℕ) → i < k → at hand i < length F
-    hand_arc i l = subst (λ (x : ℕ). x < length F) (get_or-take k hand i 0 l)
-        (walk_arc F T (length F) h.cycle.hub (take k hand) h.cycle.hub h.cycle.cycle.walk i (omega (arith, arcs)))
+    pub in_cycle : (i : ℕ) → i < length (take k hand) → at (take k hand) i < length F
+    in_cycle i l = walk_arc F T (length F) h.cycle.hub (take k hand) h.cycle.hub h.cycle.cycle.walk i l
 
 pub summed : {F T : List ℕ} {cost : List ℤ} {reward : List ℕ} {n : ℕ} → Graph F T cost reward n → {hand : List ℕ} {k : ℕ} → InHand F T n hand k → Earns reward hand k
-    → Summed cost reward hand k
-summed g h e = record {
-  room = omega (arith, h.short, h.room);
-  short = omega (arith, h.short, g.nodes);
-  costs = λ i l. omega (arith, hand_arc g h i l, g.costs);
-  rewards = λ i l. omega (arith, hand_arc g h i l, g.rewards);
+    → Summed cost reward (take k hand)
+summed {F} g {hand} {k} h e = record {
+  short = omega (arith, arcs g h, h.short, g.nodes);
+  costs = λ i l. omega (arith, in_cycle g h i l, g.costs);
+  rewards = λ i l. omega (arith, in_cycle g h i l, g.rewards);
   cost_small = hand_cost g h;
   earns = e;
 }

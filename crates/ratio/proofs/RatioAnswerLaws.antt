@@ -1,4 +1,4 @@
--- A search by its answers, the first one by its coefficients, the copy of the cycle, and what the verdict's number says.
+-- The first search one by its coefficients, the copy of the cycle, and what the verdict's number says.
 use mathlib.Core.Path.{◌≡◌, refl, sym, ap, subst, ◌∙◌}
 use mathlib.Core.Bool.{true}
 use mathlib.Core.List.{List, ◌++◌}
@@ -13,9 +13,9 @@ use Rattle.integers.proofs.Parts.{up, dn}
 use Rattle.walks.specs.Form.{Graph, CoefficientsInRange}
 use Rattle.walks.specs.Weight.{weight_of}
 use Rattle.walks.specs.Cycles.{EarningArcs, NoneEarns, IdleGainArcs}
+use Rattle.std.specs.Prelude.{Option, Some, None, Result, Ok}
+use Rattle.walks.specs.declared.Malformed.{Malformed}
 use Rattle.graph.specs.Answer as Search
-use Rattle.graph.specs.declared.Answer.{Answer}
-use Rattle.graph.specs.declared.Answer.TheVariants.{Malformed, Cycle, Potentials}
 use Rattle.ratio.specs.Answer.{RatioQuestions, no_to_13, no_to_14, yes_to_both}
 
 -- a new list of k entries has room for as many
@@ -23,29 +23,13 @@ pub room : {A : Type 0} {n : ℕ} (k : ℕ) (x : A) → n ≤ k → n ≤ length
 room k x h = omega (arith, length-replicate k x)
 
 -- the search at the coefficients that the code has
-pub coded : (F T : List ℕ) (cost : List ℤ) (reward : List ℕ) (a b c : ℤ) (n : ℕ) (potential potential' : List ℤ) (arcs arcs' : List ℕ) (A : Answer) {x y z : ℤ}
+pub coded : (F T : List ℕ) (cost : List ℤ) (reward : List ℕ) (a b c : ℤ) (n : ℕ) (potential potential' : List ℤ) (arcs arcs' : List ℕ) (A : Result (Option ℕ) Malformed) {x y z : ℤ}
     → Search.SearchAnswered F T cost reward x y z n potential potential' arcs arcs' A → x ≡ a → y ≡ b → z ≡ c
     → Search.SearchAnswered F T cost reward a b c n potential potential' arcs arcs' A
 coded F T cost reward a b c n potential potential' arcs arcs' A s ea eb ec = rw (sym ea, sym eb, sym ec) s
 
--- a search by its answer
-module _ (F T : List ℕ) (cost : List ℤ) (reward : List ℕ) (a b c : ℤ) (n : ℕ) (potential potential' : List ℤ) (arcs arcs' : List ℕ)
-    (A : Answer) (z : Search.SearchAnswered F T cost reward a b c n potential potential' arcs arcs' A) where
-  abbrev Is : Answer → Type 0
-  Is = Search.SearchAnswered F T cost reward a b c n potential potential' arcs arcs'
-
-  -- malformed arguments are no graph
-  pub no_graph : CoefficientsInRange a b c → n ≤ length potential → n ≤ length arcs → A ≡ Malformed → Graph F T cost reward n → ⊥
-  no_graph k hp ha e g = (subst Is e z).0 (record { graph = g; in_range = k; potential_room = hp; cycle_room = ha })
-
-  pub found : (k : ℕ) → A ≡ Cycle k → Graph F T cost reward n × Search.CycleFound F T (weight_of a b c cost reward) n k potential potential' arcs arcs'
-  found k e = let y = subst Is e z in (y.0.graph, y.1)
-
-  pub none : A ≡ Potentials → Graph F T cost reward n × Search.PotentialsFound F T (weight_of a b c cost reward) n potential potential' arcs arcs'
-  none e = let y = subst Is e z in (y.0.graph, y.1)
-
 -- a search by rewards alone, each unit below 0
-pub record SearchByReward (F T : List ℕ) (cost : List ℤ) (reward : List ℕ) (n : ℕ) (potential potential' : List ℤ) (arcs arcs' : List ℕ) (A : Answer) : Type 0 where
+pub record SearchByReward (F T : List ℕ) (cost : List ℤ) (reward : List ℕ) (n : ℕ) (potential potential' : List ℤ) (arcs arcs' : List ℕ) (A : Result (Option ℕ) Malformed) : Type 0 where
   pub b : ℤ
   pub negative : up b ≡ 0
   pub some : 0 < dn b
@@ -53,7 +37,7 @@ pub record SearchByReward (F T : List ℕ) (cost : List ℤ) (reward : List ℕ)
   pub answered : Search.SearchAnswered F T cost reward (pos 0) b (pos 0) n potential potential' arcs arcs' A
 
 -- by the coefficients that the code has
-pub by_reward : {F T : List ℕ} {cost : List ℤ} {reward : List ℕ} {n : ℕ} {a b c : ℤ} {potential potential' : List ℤ} {arcs arcs' : List ℕ} {A : Answer}
+pub by_reward : {F T : List ℕ} {cost : List ℤ} {reward : List ℕ} {n : ℕ} {a b c : ℤ} {potential potential' : List ℤ} {arcs arcs' : List ℕ} {A : Result (Option ℕ) Malformed}
     → Search.SearchAnswered F T cost reward a b c n potential potential' arcs arcs' A
     → CoefficientsInRange a b c → up b ≡ 0 → ltb 0 (dn b) ≡ true → a ≡ pos 0 → c ≡ pos 0
     → SearchByReward F T cost reward n potential potential' arcs arcs' A
@@ -64,6 +48,18 @@ by_reward {F} {T} {cost} {reward} {n} {a} {b} {c} {potential} {potential'} {arcs
   in_range = record { a_small = omega arith; b_small = range.b_small; c_small = omega arith };
   answered = coded F T cost reward (pos 0) b (pos 0) n potential potential' arcs arcs' A z no_cost refl no_arc;
 }
+
+-- by what it answered
+module _ {F T : List ℕ} {cost : List ℤ} {reward : List ℕ} {n : ℕ} {potential potential' : List ℤ} {arcs arcs' : List ℕ} {A : Result (Option ℕ) Malformed}
+    (i : SearchByReward F T cost reward n potential potential' arcs arcs' A) {o : Option ℕ} (e : A ≡ Ok o) where
+  abbrev Is : Result (Option ℕ) Malformed → Type 0
+  Is = Search.SearchAnswered F T cost reward (pos 0) i.b (pos 0) n potential potential' arcs arcs'
+
+  pub found : {k : ℕ} → o ≡ Some k → Search.CycleFound F T (weight_of (pos 0) i.b (pos 0) cost reward) n k potential potential' arcs arcs'
+  found f = (subst Is (e ∙ ap Ok f) i.answered).1
+
+  pub none : o ≡ None → Graph F T cost reward n × Search.PotentialsFound F T (weight_of (pos 0) i.b (pos 0) cost reward) n potential potential' arcs arcs'
+  none f = let y = subst Is (e ∙ ap Ok f) i.answered in (y.0.graph, y.1)
 
 -- the cycle copied to the front of the lent buffer
 module _ (hand cycle cycle' : List ℕ) (k : ℕ) (fits : k ≤ length hand) (e : cycle' ≡ take k hand ++ drop k cycle) where

@@ -1,54 +1,45 @@
--- Sums over the last entries of a list, one entry more at a time, and the signed words that hold them.
+-- Sums over the first arcs of a list, one more at a time, and the signed words that hold them.
 use mathlib.Core.Path.{◌≡◌, refl, ap, ◌∙◌}
-use mathlib.Core.List.{List, ◌∷◌}
-use Prim.Native.Nat.{ℕ, suc, ◌+◌, ◌-◌, ◌*◌, ◌≤◌, ◌<◌}
+use mathlib.Core.List.{List, [], ◌∷◌, ◌++◌}
+use Prim.Native.Nat.{ℕ, ◌+◌, ◌*◌, ◌≤◌, ◌<◌}
+use native.Mathlib.Numerals.{add-one}
 use native.Mathlib.Omega.{arith}
-use lib.ListN.{length}
-use lib.Seq.{slice, slice-cons, slice_empty}
-use lib.IntN.{ℤ, pos, nat_abs, ◌+ℤ◌}
+use lib.ListN.{length, take}
+use lib.Seq.{take-suc}
+use lib.IntN.{ℤ, nat_abs, ◌+ℤ◌, +ℤ_idr}
 use mir.Syntax.{w64}
 use mir.Val.{SFits, to_z, of_z}
 use mir.Facts.{to_z-of_z}
 use Rattle.integers.proofs.Products.{abs_add}
-use Rattle.integers.proofs.Machine.{small, back}
+use Rattle.integers.proofs.Machine.{small}
 use Rattle.walks.specs.Walk.{at}
 use Rattle.walks.specs.Weight.{sum, total}
+use Rattle.walks.proofs.Weights.{sum-append, total_append}
 
-module _ (order : List ℕ) (i b : ℕ) (h : 0 < i) (l : i ≤ b) (r : b ≤ length order) where
-  one_more : slice (i - 1) b order ≡ at order (i - 1) ∷ slice i b order
-  one_more = let s : suc (i - 1) ≡ i = omega arith in
-      slice-cons (i - 1) b order 0 (omega arith) r ∙ ap (λ (k : ℕ). at order (i - 1) ∷ slice k b order) s
+module _ (c : List ℕ) (i : ℕ) (h : i < length c) where
+  one_more : take (i + 1) c ≡ take i c ++ (at c i ∷ [])
+  one_more = rw (add-one, take-suc c i 0) refl
 
-  pub total_more : (f : ℕ → ℕ) → total f (slice (i - 1) b order) ≡ f (at order (i - 1)) + total f (slice i b order)
-  total_more f = ap (total f) one_more
+  pub total_more : (f : ℕ → ℕ) → total f (take (i + 1) c) ≡ total f (take i c) + f (at c i)
+  total_more f = ap (total f) one_more ∙ total_append f (take i c) (at c i ∷ []) ∙ omega arith
 
-  pub sum_more : (f : ℕ → ℤ) → sum f (slice (i - 1) b order) ≡ f (at order (i - 1)) +ℤ sum f (slice i b order)
-  sum_more f = ap (sum f) one_more
-
-pub total_none : (f : ℕ → ℕ) (order : List ℕ) (b : ℕ) → 0 ≡ total f (slice b b order)
-total_none f order b = rw (slice_empty b order) refl
-
-pub sum_none : (f : ℕ → ℤ) (order : List ℕ) (b : ℕ) → pos 0 ≡ sum f (slice b b order)
-sum_none f order b = rw (slice_empty b order) refl
+  pub sum_more : (f : ℕ → ℤ) → sum f (take (i + 1) c) ≡ sum f (take i c) +ℤ f (at c i)
+  sum_more f = ap (sum f) one_more ∙ sum-append f (take i c) (at c i ∷ []) ∙ ap (λ (z : ℤ). sum f (take i c) +ℤ z) (+ℤ_idr (f (at c i)))
 
 -- what is read back of a signed local
 abbrev pub again : ℤ → ℤ
 again z = to_z w64 (of_z w64 z)
 
--- y, an entry, and x, the sum of j entries before
-module _ (x y : ℤ) (j : ℕ) (hj : j ≤ 2048) (hx : nat_abs x ≤ 65536 * j) (hy : nat_abs y ≤ 32768) where
+-- x, the sum of j entries before, and y, an entry
+module _ (x y : ℤ) (j : ℕ) (hj : j ≤ 2048) (hx : nat_abs x ≤ 32768 * j) (hy : nat_abs y ≤ 32768) where
   entry_fits : SFits w64 y
   entry_fits = small y 65536 (omega arith) (omega arith)
 
-  pub sum_fits : SFits w64 (again y +ℤ x)
-  sum_fits = let f = entry_fits in simp to_z-of_z (small (y +ℤ x) 1073741824 (omega (arith, abs_add y x)) (omega arith))
+  sum_fits : SFits w64 (x +ℤ y)
+  sum_fits = small (x +ℤ y) 1073741824 (omega (arith, abs_add x y)) (omega arith)
 
-  pub sum_bound : nat_abs (y +ℤ x) ≤ 65536 * (j + 1)
-  sum_bound = omega (arith, abs_add y x)
+  pub sum_again : again (x +ℤ again y) ≡ x +ℤ y
+  sum_again = let f = entry_fits in let g = sum_fits in simp to_z-of_z refl
 
-  pub sum_again : (z : ℤ) → z ≡ again y +ℤ x → again z ≡ y +ℤ x
-  sum_again z e =
-      let f = entry_fits in
-      let q : z ≡ y +ℤ x = simp to_z-of_z at e in
-      let g : SFits w64 (y +ℤ x) = small (y +ℤ x) 1073741824 (omega (arith, abs_add y x)) (omega arith) in
-      back q g
+  pub sum_bound : nat_abs (x +ℤ y) ≤ 32768 * (j + 1)
+  sum_bound = omega (arith, abs_add x y)

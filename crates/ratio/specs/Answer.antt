@@ -1,12 +1,13 @@
 -- What `least_ratio` answers. The buffers as the call finds them are `potential` and `cycle`, and as it leaves them `potential'` and `cycle'`.
-use Rattle.std.specs.Prelude.{◌≡◌, List, ℕ, ◌≤◌, ◌<◌, length, take, drop, ℤ, pos, neg_ℤ, nat_abs, ◌*ℤ◌}
+use Rattle.std.specs.Prelude.{◌≡◌, List, ℕ, ◌≤◌, ◌<◌, length, take, drop, ℤ, pos, neg_ℤ, nat_abs, ◌*ℤ◌, Result, Ok, Err}
 use Rattle.std.proofs.Math.Option.{Option, none, some}
 use Rattle.integers.specs.Lowest.{Lowest}
 use Rattle.walks.specs.Walk.{at, atℤ}
 use Rattle.walks.specs.Weight.{weight_of, sum, total, NoneNegative, PotentialOrMark}
 use Rattle.walks.specs.Cycles.{SimpleCycle, EarningArcs, NoneEarns, NoIdleGain, IdleGainArcs}
 use Rattle.walks.specs.Form.{Graph}
-use Rattle.ratio.specs.declared.RatioAnswer.{RatioAnswer}
+use Rattle.ratio.specs.declared.Ratio.{Ratio}
+use Rattle.ratio.specs.declared.NoRatio.{NoRatio}
 
 -- the arguments: a graph of n nodes, and n entries or more in each buffer
 pub record RatioArguments (F T : List ℕ) (cost : List ℤ) (reward : List ℕ) (n potentials arcs : ℕ) : Type 0 where
@@ -41,11 +42,11 @@ pub record Kept (potential potential' : List ℤ) (cycle cycle' : List ℕ) : Ty
   pub cycles : cycle' ≡ cycle
 
 -- 01's number of each answer; malformed arguments have no number of 01's, and no plan gets that answer
-abbrev pub ratio_number : RatioAnswer → Option ℕ
-ratio_number RatioAnswer.Malformed = none
-ratio_number RatioAnswer.NoneEarns = some 13
-ratio_number RatioAnswer.IdleGain = some 14
-ratio_number (RatioAnswer.Ratio p q k) = some 0
+abbrev pub ratio_number : Result Ratio NoRatio → Option ℕ
+ratio_number (Err NoRatio.Malformed) = none
+ratio_number (Err NoRatio.NoneEarns) = some 13
+ratio_number (Err NoRatio.IdleGain) = some 14
+ratio_number (Ok r) = some 0
 
 -- questions 13 and 14 put to the graph, with the number of the first answered no, and 0 where both are answered yes. No two cases hold together.
 pub data RatioQuestions (F T : List ℕ) (cost : List ℤ) (reward : List ℕ) (number : ℕ) : Type 0 where
@@ -59,12 +60,10 @@ RatioNumbered F T cost reward n potentials arcs none = ¬ RatioArguments F T cos
 RatioNumbered F T cost reward n potentials arcs (some number) = RatioArguments F T cost reward n potentials arcs × RatioQuestions F T cost reward number
 
 -- what an answer leaves in the buffers
-abbrev pub RatioLeft : List ℕ → List ℕ → List ℤ → List ℕ → ℕ → List ℤ → List ℤ → List ℕ → List ℕ → RatioAnswer → Type 0
-RatioLeft F T cost reward n potential potential' cycle cycle' RatioAnswer.Malformed = Kept potential potential' cycle cycle'
-RatioLeft F T cost reward n potential potential' cycle cycle' RatioAnswer.NoneEarns = Kept potential potential' cycle cycle'
-RatioLeft F T cost reward n potential potential' cycle cycle' RatioAnswer.IdleGain = Kept potential potential' cycle cycle'
-RatioLeft F T cost reward n potential potential' cycle cycle' (RatioAnswer.Ratio p q k) = RatioFound F T cost reward n p q k potential potential' cycle cycle'
+abbrev pub RatioLeft : List ℕ → List ℕ → List ℤ → List ℕ → ℕ → List ℤ → List ℤ → List ℕ → List ℕ → Result Ratio NoRatio → Type 0
+RatioLeft F T cost reward n potential potential' cycle cycle' (Err _) = Kept potential potential' cycle cycle'
+RatioLeft F T cost reward n potential potential' cycle cycle' (Ok r) = RatioFound F T cost reward n r.p r.q r.arcs potential potential' cycle cycle'
 
-abbrev pub RatioAnswered : List ℕ → List ℕ → List ℤ → List ℕ → ℕ → List ℤ → List ℤ → List ℕ → List ℕ → RatioAnswer → Type 0
+abbrev pub RatioAnswered : List ℕ → List ℕ → List ℤ → List ℕ → ℕ → List ℤ → List ℤ → List ℕ → List ℕ → Result Ratio NoRatio → Type 0
 RatioAnswered F T cost reward n potential potential' cycle cycle' v =
     RatioNumbered F T cost reward n (length potential) (length cycle) (ratio_number v) × RatioLeft F T cost reward n potential potential' cycle cycle' v

@@ -1,13 +1,13 @@
 -- What the private functions promise each other: the ratio of the cycle in hand, a turn of the loop, and what the loop comes to. Only private
 -- functions go by this file.
-use Rattle.std.specs.Prelude.{◌≡◌, List, ℕ, ◌≤◌, ◌<◌, length, take, drop, ℤ, pos, neg_ℤ, nat_abs, ◌*ℤ◌, ◌<ℤ◌}
+use Rattle.std.specs.Prelude.{◌≡◌, List, ℕ, ◌≤◌, ◌<◌, length, take, drop, ℤ, pos, neg_ℤ, nat_abs, ◌*ℤ◌, ◌<ℤ◌, Option, Some, None}
 use Rattle.integers.specs.Lowest.{Lowest}
 use Rattle.walks.specs.Walk.{at, atℤ}
 use Rattle.walks.specs.Weight.{weight_of, sum, total, NoneNegative, PotentialOrMark}
 use Rattle.walks.specs.Cycles.{SimpleCycle, EarningArcs, IdleGainArcs}
 use Rattle.ratio.specs.Answer.{RatioOf}
 use Rattle.ratio.specs.declared.improve.Turn.{Turn}
-use Rattle.ratio.specs.declared.improve.Settled.{Settled}
+use Rattle.ratio.specs.declared.Ratio.{Ratio}
 
 -- p / q is cost / reward in lowest terms
 pub record Reduced (cost : ℤ) (reward : ℕ) (p : ℤ) (q : ℕ) : Type 0 where
@@ -16,14 +16,13 @@ pub record Reduced (cost : ℤ) (reward : ℕ) (p : ℤ) (q : ℕ) : Type 0 wher
   pub p_small : nat_abs p ≤ nat_abs cost
   pub q_small : q ≤ reward
 
--- the first k arcs can be summed up, and earn
-pub record Summed (cost : List ℤ) (reward arcs : List ℕ) (k : ℕ) : Type 0 where
-  pub room : k ≤ length arcs
-  pub short : k ≤ 2048
-  pub costs : (i : ℕ) → i < k → at arcs i < length cost
-  pub rewards : (i : ℕ) → i < k → at arcs i < length reward
-  pub cost_small : nat_abs (sum (atℤ cost) (take k arcs)) ≤ 20480000
-  pub earns : 0 < total (at reward) (take k arcs)
+-- the arcs of a cycle can be summed up, and earn
+pub record Summed (cost : List ℤ) (reward cycle : List ℕ) : Type 0 where
+  pub short : length cycle ≤ 2048
+  pub costs : (i : ℕ) → i < length cycle → at cycle i < length cost
+  pub rewards : (i : ℕ) → i < length cycle → at cycle i < length reward
+  pub cost_small : nat_abs (sum (atℤ cost) cycle) ≤ 20480000
+  pub earns : 0 < total (at reward) cycle
 
 -- the cycle in hand: the first k entries
 pub record InHand (F T : List ℕ) (n : ℕ) (hand : List ℕ) (k : ℕ) : Type 0 where
@@ -66,8 +65,8 @@ pub record GainFound (F T : List ℕ) (cost : List ℤ) (reward : List ℕ) (pot
 abbrev pub Turned : List ℕ → List ℕ → List ℤ → List ℕ → ℕ → ℕ → List ℤ → List ℤ → List ℕ → List ℕ → Turn → Type 0
 Turned F T cost reward n k potential potential' hand hand' (Turn.Better j) = Improved F T cost reward n k j potential potential' hand hand'
 Turned F T cost reward n k potential potential' hand hand' Turn.Gains = GainFound F T cost reward potential potential'
-Turned F T cost reward n k potential potential' hand hand' (Turn.Done p q) = LeastInHand F T cost reward n potential potential' hand' p q k
+Turned F T cost reward n k potential potential' hand hand' (Turn.Done f) = LeastInHand F T cost reward n potential potential' hand' f.p f.q k
 
-abbrev pub SettledBy : List ℕ → List ℕ → List ℤ → List ℕ → ℕ → List ℤ → List ℤ → List ℕ → Settled → Type 0
-SettledBy F T cost reward n potential potential' hand' Settled.Gains = GainFound F T cost reward potential potential'
-SettledBy F T cost reward n potential potential' hand' (Settled.Least p q k) = LeastInHand F T cost reward n potential potential' hand' p q k
+abbrev pub SettledBy : List ℕ → List ℕ → List ℤ → List ℕ → ℕ → List ℤ → List ℤ → List ℕ → Option Ratio → Type 0
+SettledBy F T cost reward n potential potential' hand' None = GainFound F T cost reward potential potential'
+SettledBy F T cost reward n potential potential' hand' (Some r) = LeastInHand F T cost reward n potential potential' hand' r.p r.q r.arcs

@@ -1,125 +1,101 @@
 // From a cycle that earns to one of the least ratio, or to one without reward that makes money.
+// The cycle in hand is the first k entries of hand. Where only it is read, it is passed as &hand[..k]; these functions search on in all of hand.
+// hand and k are no struct with an invariant: `negative_cycle` writes hand and then gives k, so in between no invariant holds.
 ghost use Rattle.std.specs.Prelude.{length};
 ghost use Rattle.ratio.specs.Answer.{RatioArguments, RatioAnswered};
 ghost use Rattle.ratio.specs.Turns.{InHand, Earns, Turned, SettledBy};
 
-use crate::RatioAnswer;
-use graph::{Answer, Coefficients};
+use crate::fraction::{Fraction, fraction_of, reward_sum};
+use crate::{NoRatio, Ratio};
+use graph::Coefficients;
+use walks::{Arcs, Malformed};
 
 // A cycle of a smaller ratio is in hand now, by the number of its arcs; or a cycle without reward makes money; or there is neither, and the
-// ratio is p / q.
+// ratio is the least. Three cases, so neither an Option nor a Result.
 #[derive(Clone, Copy)]
 enum Turn {
     Better(usize),
     Gains,
-    Done(i64, u64),
-}
-
-// A cycle without reward makes money; or the least ratio p / q, and the number of arcs of the cycle in hand, which has it.
-#[derive(Clone, Copy)]
-enum Settled {
-    Gains,
-    Least(i64, u64, usize),
+    Done(Fraction),
 }
 
 // One search for a cycle below the ratio of the one in hand. Where there is none, the potentials are written.
 fn search_below(
-    from: &[u16],
-    to: &[u16],
-    cost: &[i16],
-    reward: &[u16],
+    arcs: Arcs<'_>,
     nodes: usize,
     potential: &mut [i64],
     hand: &mut [usize],
     k: usize,
 ) -> Turn
-    requires ratio_arguments { RatioArguments from.now to.now cost.now reward.now nodes (length potential.old) (length hand.old) }
-    requires in_hand { InHand from.now to.now nodes hand.old k }
-    requires earns { Earns reward.now hand.old k }
-    ensures { Turned from.now to.now cost.now reward.now nodes k
+    requires ratio_arguments { RatioArguments arcs.from.now arcs.to.now arcs.cost.now arcs.reward.now nodes (length potential.old) (length hand.old) }
+    requires in_hand { InHand arcs.from.now arcs.to.now nodes hand.old k }
+    requires earns { Earns arcs.reward.now hand.old k }
+    ensures { let g = arcs.entry in Turned g.from.now g.to.now g.cost.now g.reward.now nodes k
         potential.old potential.new hand.old hand.new result }
 {
-    let f = crate::fraction::fraction_of(cost, reward, hand, k);
-    let p = f.p;
-    let q = f.q;
+    let ratio = fraction_of(arcs, &hand[..k]);
+    // q is too small to lose anything.
     let below = Coefficients {
-        a: q as i64,
-        b: 0 - p,
+        a: ratio.q as i64,
+        b: -ratio.p,
         c: 0,
     };
-    let found = graph::negative_cycle(from, to, cost, reward, below, nodes, potential, hand);
-    match found {
+    match graph::negative_cycle(arcs, below, nodes, potential, hand) {
         // Never: the arguments are well formed.
-        Answer::Malformed => Turn::Done(p, q),
-        Answer::Cycle(j) => {
-            let earned = crate::fraction::reward_sum(reward, hand, j);
+        Err(Malformed) => Turn::Done(ratio),
+        Ok(None) => Turn::Done(ratio),
+        Ok(Some(j)) => {
+            let earned = reward_sum(arcs.reward, &hand[..j]);
             if earned == 0 {
                 return Turn::Gains;
             }
             Turn::Better(j)
         }
-        Answer::Potentials => Turn::Done(p, q),
     }
 }
 
-// Turn by turn: the ratio falls, and fractions with bounded denominators cannot fall for ever.
+// Turn by turn: the ratio falls, and fractions with bounded denominators cannot fall for ever. None: a cycle without reward makes money.
 fn settle(
-    from: &[u16],
-    to: &[u16],
-    cost: &[i16],
-    reward: &[u16],
+    arcs: Arcs<'_>,
     nodes: usize,
     potential: &mut [i64],
     hand: &mut [usize],
     k: usize,
-) -> Settled
-    requires ratio_arguments { RatioArguments from.now to.now cost.now reward.now nodes (length potential.old) (length hand.old) }
-    requires in_hand { InHand from.now to.now nodes hand.old k }
-    requires earns { Earns reward.now hand.old k }
-    ensures { SettledBy from.now to.now cost.now reward.now nodes
+) -> Option<Ratio>
+    requires ratio_arguments { RatioArguments arcs.from.now arcs.to.now arcs.cost.now arcs.reward.now nodes (length potential.old) (length hand.old) }
+    requires in_hand { InHand arcs.from.now arcs.to.now nodes hand.old k }
+    requires earns { Earns arcs.reward.now hand.old k }
+    ensures { let g = arcs.entry in SettledBy g.from.now g.to.now g.cost.now g.reward.now nodes
         potential.old potential.new hand.new result }
 {
-    let mut arcs = k;
+    let mut k = k;
     loop {
-        let t = search_below(from, to, cost, reward, nodes, potential, hand, arcs);
-        match t {
-            Turn::Better(j) => {
-                arcs = j;
-            }
-            Turn::Gains => {
-                return Settled::Gains;
-            }
-            Turn::Done(p, q) => {
-                return Settled::Least(p, q, arcs);
-            }
+        match search_below(arcs, nodes, potential, hand, k) {
+            Turn::Better(j) => k = j,
+            Turn::Gains => return None,
+            Turn::Done(Fraction { p, q }) => return Some(Ratio { p, q, arcs: k }),
         }
     }
 }
 
 // Question 14, and where it is answered yes the least ratio: the first k arcs in hand are a cycle that earns.
 pub(crate) fn least_from(
-    from: &[u16],
-    to: &[u16],
-    cost: &[i16],
-    reward: &[u16],
+    arcs: Arcs<'_>,
     nodes: usize,
     potential: &mut [i64],
     cycle: &mut [usize],
     hand: &mut [usize],
     k: usize,
-) -> RatioAnswer
-    requires ratio_arguments { RatioArguments from.now to.now cost.now reward.now nodes (length potential.old) (length cycle.old) }
-    requires in_hand { InHand from.now to.now nodes hand.old k }
-    requires earns { Earns reward.now hand.old k }
-    ensures { RatioAnswered from.now to.now cost.now reward.now nodes
+) -> Result<Ratio, NoRatio>
+    requires ratio_arguments { RatioArguments arcs.from.now arcs.to.now arcs.cost.now arcs.reward.now nodes (length potential.old) (length cycle.old) }
+    requires in_hand { InHand arcs.from.now arcs.to.now nodes hand.old k }
+    requires earns { Earns arcs.reward.now hand.old k }
+    ensures { let g = arcs.entry in RatioAnswered g.from.now g.to.now g.cost.now g.reward.now nodes
         potential.old potential.new cycle.old cycle.new result }
 {
-    let settled = settle(from, to, cost, reward, nodes, potential, hand, k);
-    match settled {
-        Settled::Gains => RatioAnswer::IdleGain,
-        Settled::Least(p, q, arcs) => {
-            crate::copy::arcs(hand, cycle, arcs);
-            RatioAnswer::Ratio(p, q, arcs)
-        }
-    }
+    let Some(ratio) = settle(arcs, nodes, potential, hand, k) else {
+        return Err(NoRatio::IdleGain);
+    };
+    cycle[..ratio.arcs].copy_from_slice(&hand[..ratio.arcs]);
+    Ok(ratio)
 }

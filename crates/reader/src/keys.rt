@@ -1,36 +1,18 @@
 // What edge records are compared by.
 ghost use Rattle.std.specs.Prelude.{◌≡◌, ◌+◌, ◌≤◌, ◌<◌, length};
 ghost use Rattle.sheet.specs.Records.{record_length};
-ghost use Rattle.sheet.specs.Keys.{four_at, eight_at, side_of, side_at, key_of, blank_key};
+ghost use Rattle.sheet.specs.Keys.{four_at, eight_at, side_of, side_at, key_of};
 ghost use Rattle.sheet.specs.declared.fields.Kind.TheVariants.{EdgeRecord};
 
-use sheet::fields::Kind;
+use crate::record::Record;
 use sheet::keys::Key;
 
-pub(crate) fn blank_key() -> Key
-    ensures { result ≡ blank_key }
-{
-    Key {
-        at: 0,
-        length: 0,
-        front: 0,
-        back: 0,
-    }
-}
-
-// A byte, for sums.
-fn wide(x: u8) -> u32
-    ensures { (result ≡ x) × (result < 256) }
-{
-    x as u32
-}
-
-// Four bytes as one number.
+// Four bytes as one number. No trait of the library has `from_be_bytes`: one generic function for four and eight bytes would need a trait for this alone.
 fn four(s: &[u8], at: usize) -> u32
     requires { at + 4 ≤ length s.now }
     ensures { result ≡ four_at s.now at }
 {
-    ((wide(s[at]) * 256 + wide(s[at + 1])) * 256 + wide(s[at + 2])) * 256 + wide(s[at + 3])
+    u32::from_be_bytes([s[at], s[at + 1], s[at + 2], s[at + 3]])
 }
 
 // Eight bytes as one number.
@@ -38,7 +20,16 @@ fn eight(s: &[u8], at: usize) -> u64
     requires { at + 8 ≤ length s.now }
     ensures { result ≡ eight_at s.now at }
 {
-    (four(s, at) as u64) * 4294967296 + (four(s, at + 4) as u64)
+    u64::from_be_bytes([
+        s[at],
+        s[at + 1],
+        s[at + 2],
+        s[at + 3],
+        s[at + 4],
+        s[at + 5],
+        s[at + 6],
+        s[at + 7],
+    ])
 }
 
 // How many bytes of a record of `count` are taken at either end.
@@ -54,24 +45,28 @@ fn side_at(s: &[u8], at: usize, count: usize) -> u64
     ensures { result ≡ side_at s.now at count }
 {
     if count < 8 {
-        four(s, at) as u64
+        u64::from(four(s, at))
     } else {
         eight(s, at)
     }
 }
 
-// The key of the edge record at a place.
-pub(crate) fn key_at(s: &[u8], at: usize) -> Key
-    requires { (at < 2048) × (at + record_length EdgeRecord s.now at ≤ length s.now) }
-    ensures { result ≡ key_of s.now at }
-{
-    let length = crate::records::record_length(s, Kind::EdgeRecord, at);
-    let front = side_at(s, at, length);
-    let back = side_at(s, at + (length - side(length)), length);
-    Key {
-        at,
-        length,
-        front,
-        back,
+impl<'a> Record<'a> {
+    // What an edge record is compared by.
+    pub(crate) fn key(&self) -> Key
+        requires edge { self.now.kind ≡ EdgeRecord }
+        requires room { self.now.at + record_length EdgeRecord self.now.sheet.now self.now.at ≤ length self.now.sheet.now }
+        ensures { result ≡ key_of self.now.sheet.now self.now.at }
+    {
+        let at = self.at;
+        let length = self.length();
+        let front = side_at(self.sheet, at, length);
+        let back = side_at(self.sheet, at + (length - side(length)), length);
+        Key {
+            at,
+            length,
+            front,
+            back,
+        }
     }
 }

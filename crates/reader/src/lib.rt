@@ -2,22 +2,25 @@
 #![tactic(auto)]
 
 ghost use Rattle.std.specs.Prelude.{◌≡◌};
+ghost use Rattle.refusals.specs.Numbers.{refusal_of};
 ghost use Rattle.sheet.specs.Questions.{check_of};
 ghost use Rattle.sheet.specs.Decoded.{read_of};
 
+use refusals::Refusal;
 use sheet::Sheet;
 
 mod bytes;
+mod counts;
 mod decode;
 mod distinct;
 mod fields;
 mod keys;
 mod questions;
-mod records;
+mod record;
 
-// 0, or the number of the first of questions 2 to 10, 17 and 11 that is answered no.
-pub fn check(sheet: &[u8]) -> u8
-    ensures { result ≡ check_of sheet.now }
+// The first of questions 2 to 10, 17 and 11 that is answered no.
+pub fn check(sheet: &[u8]) -> Result<(), Refusal>
+    ensures { refusal_of result ≡ check_of sheet.now }
 {
     questions::check(sheet)
 }
@@ -26,9 +29,8 @@ pub fn check(sheet: &[u8]) -> u8
 pub fn read(sheet: &[u8]) -> Sheet
     ensures { result ≡ read_of sheet.now }
 {
-    let refusal = questions::check(sheet);
-    if refusal != 0 {
-        return decode::refused(refusal);
+    match questions::check(sheet) {
+        Ok(()) => decode::decoded(sheet),
+        Err(refusal) => decode::refused(refusal),
     }
-    decode::decoded(sheet)
 }

@@ -47,9 +47,21 @@ clocks_from_lem f k (suc n) i =
 pub clock_parts : (f : ℕ → ℕ) (k n : ℕ) → list_from (λ j. if_clock k j (f j)) 0 n ≡ pad_to n (list_from f 0 k)
 clock_parts f k n = clocks_from_lem f k n 0 ∙ ap (λ (z : ℕ). pad_to n (list_from f 0 z)) (omega arith)
 
+beyond : (f : ℕ → ℕ) (k n i : ℕ) → n ≤ k → pad_to n (list_from f i k) ≡ pad_to n (list_from f i n)
+unfolding list_from pad_to
+beyond f k zero i h = refl
+beyond f zero (suc n) i h = absurd (omega arith)
+beyond f (suc k) (suc n) i h = ap (λ (l : List ℕ). f i ∷ l) (beyond f k n (suc i) (omega arith))
+
+mapped : (g : ℕ → ℕ) (k : ℕ) (xs : List ℕ) → k ≤ length xs → list_from (λ j. g (get_or xs j 0)) 0 k ≡ map g (take k xs)
+mapped g k xs h = sym (map_list g (λ j. get_or xs j 0) 0 k) ∙ ap (map g) (entries k xs h)
+
 -- the same, of an array
-pub clock_map : (g : ℕ → ℕ) (k n : ℕ) (xs : List ℕ) → k ≤ length xs → list_from (λ j. if_clock k j (g (get_or xs j 0))) 0 n ≡ pad_to n (map g (take k xs))
-clock_map g k n xs h = clock_parts (λ j. g (get_or xs j 0)) k n ∙ ap (pad_to n) (sym (map_list g (λ j. get_or xs j 0) 0 k) ∙ ap (map g) (entries k xs h))
+pub clock_map : (g : ℕ → ℕ) (k n : ℕ) (xs : List ℕ) → length xs ≡ n → list_from (λ j. if_clock k j (g (get_or xs j 0))) 0 n ≡ pad_to n (map g (take k xs))
+clock_map g k n xs h = clock_parts (λ j. g (get_or xs j 0)) k n ∙ by_bool (ltb n k)
+    (λ t. beyond (λ j. g (get_or xs j 0)) k n 0 (omega (arith, ltb-true n k t))
+    ∙ ap (pad_to n) (mapped g n xs (omega arith) ∙ ap (map g) (take_all n xs (omega arith) ∙ sym (take_all k xs (omega (arith, ltb-true n k t))))))
+    (λ t. ap (pad_to n) (mapped g k xs (omega (arith, ltb-false n k t))))
 
 -- ---- arrays of four
 
@@ -59,6 +71,12 @@ each_four p q r s = ap₂ ◌∷◌ p (ap₂ ◌∷◌ q (ap₂ ◌∷◌ r (ap�
 pub four : (xs : List ℕ) → length xs ≡ 4 → ◌≡◌ {A = List ℕ} (get_or xs 0 0 ∷ get_or xs 1 0 ∷ get_or xs 2 0 ∷ get_or xs 3 0 ∷ []) xs
 unfolding list_from
 four xs h = entries 4 xs (omega arith) ∙ take_all 4 xs (omega arith)
+
+-- an array of four that a function of the clock fills
+pub filled_four : (f : ℕ → ℕ) (xs : List ℕ) → length xs ≡ 4 → get_or xs 0 0 ≡ f 0 → get_or xs 1 0 ≡ f 1 → get_or xs 2 0 ≡ f 2 → get_or xs 3 0 ≡ f 3
+    → xs ≡ list_from f 0 4
+unfolding list_from
+filled_four f xs h p q r s = sym (four xs h) ∙ each_four p q r s
 
 pub largest_four : (xs : List ℕ) → length xs ≡ 4 → max (get_or xs 0 0) (max (get_or xs 1 0) (max (get_or xs 2 0) (get_or xs 3 0))) ≡ largest xs
 unfolding largest

@@ -19,10 +19,9 @@ use Rattle.sheet.specs.declared.Location.{Location}
 use Rattle.nodes.specs.Numbers.{Layout, layout_at, bits_of, number, node_of, step_by}
 use Rattle.nodes.specs.Decoded.{few_clocks, bound_in, lower_in, alone}
 use Rattle.nodes.proofs.Carried.{named}
-use Rattle.region.specs.Answers.{refused_step, answered}
+use Rattle.region.specs.Answers.{Stepped, refused_step, answered}
 use Rattle.region.specs.Arrays.{in_arrays, node_in, number_in, bounds_in, guards_in, guard_holds, after_edge}
 use Rattle.region.specs.declared.Node.{Node}
-use Rattle.region.specs.declared.Stepped.{Stepped}
 use Rattle.region.proofs.ClockLaws.{no_more}
 use Rattle.nodes.proofs.LayoutLaws.{few_le}
 use Rattle.region.proofs.NodeLaws.{Sized, sized, own_number, same_intervals, edge_arrays, edge_sized}

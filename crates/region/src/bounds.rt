@@ -1,5 +1,5 @@
 // Bounds and guards: whether they hold in a whole region.
-ghost use Rattle.std.specs.Prelude.{◌≡◌, ◌≤◌};
+ghost use Rattle.std.specs.Prelude.{◌≡◌};
 ghost use Rattle.automaton.specs.Bounds.{interval, upper_holds};
 ghost use Rattle.region.specs.Arrays.{guard_holds, guards_in, bounds_in};
 
@@ -9,7 +9,7 @@ use crate::Region;
 pub(crate) fn interval_of(h: u8, k: u8) -> u16
     ensures { result ≡ interval h k }
 {
-    let twice = 2 * (h as u16);
+    let twice = 2 * u16::from(h);
     if k == 0 { twice } else { twice + 1 }
 }
 
@@ -17,27 +17,14 @@ pub(crate) fn interval_of(h: u8, k: u8) -> u16
 fn upper_holds(upper: u8, i: u16) -> bool
     ensures { result ≡ upper_holds upper i }
 {
-    i < upper as u16
-}
-
-// Whether the region lies within the upper bytes of its clocks.
-pub(crate) fn inside(region: Region, upper: [u8; 4], clocks: usize) -> bool
-    requires { clocks ≤ 4 }
-    ensures { result ≡ bounds_in upper clocks region }
-{
-    for j in 0..clocks {
-        if !upper_holds(upper[j], interval_of(region.whole[j], region.class[j])) {
-            return false;
-        }
-    }
-    true
+    i < u16::from(upper)
 }
 
 // Whether a lower byte and an upper one, 255 for an absent one, hold in an interval.
 fn guard_holds(lower: u8, upper: u8, i: u16) -> bool
     ensures { result ≡ guard_holds lower upper i }
 {
-    if i < lower as u16 {
+    if i < u16::from(lower) {
         return false;
     }
     if upper == 255 {
@@ -46,19 +33,23 @@ fn guard_holds(lower: u8, upper: u8, i: u16) -> bool
     upper_holds(upper, i)
 }
 
-// Whether the guards of an edge hold in the whole region.
-pub(crate) fn guards_hold(region: Region, lower: [u8; 4], upper: [u8; 4], clocks: usize) -> bool
-    requires { clocks ≤ 4 }
-    ensures { result ≡ guards_in lower upper clocks region }
-{
-    for j in 0..clocks {
-        if !guard_holds(
-            lower[j],
-            upper[j],
-            interval_of(region.whole[j], region.class[j]),
-        ) {
-            return false;
-        }
+// The first clocks are asked by their index: with zipped arrays plans with many arcs took 2 to 4 per cent more instructions.
+impl Region {
+    // Whether the region lies within the upper bytes of its clocks.
+    pub(crate) fn inside(self, upper: [u8; 4], clocks: usize) -> bool
+        ensures { result ≡ bounds_in upper clocks self }
+    {
+        let whole = self.whole;
+        let class = self.class;
+        (0..clocks.min(4)).all(|j| upper_holds(upper[j], interval_of(whole[j], class[j])))
     }
-    true
+
+    // Whether the guards of an edge hold in the whole region.
+    pub(crate) fn guards_hold(self, lower: [u8; 4], upper: [u8; 4], clocks: usize) -> bool
+        ensures { result ≡ guards_in lower upper clocks self }
+    {
+        let whole = self.whole;
+        let class = self.class;
+        (0..clocks.min(4)).all(|j| guard_holds(lower[j], upper[j], interval_of(whole[j], class[j])))
+    }
 }

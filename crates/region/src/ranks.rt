@@ -1,21 +1,18 @@
-// Classes of a region: which occur, the largest, ranks, and closing up.
-ghost use Rattle.std.specs.Prelude.{◌≡◌, ℕ, ◌*◌, ◌≤◌, ◌<◌, max, take, get_or};
-ghost use Rattle.automaton.specs.Tests.{occurs};
-ghost use Rattle.automaton.specs.Ranks.{rank, close_up, largest};
+// Ranks of classes: how many of the values 1 to t occur, for all t below 8 by one product, and closing up.
+ghost use Rattle.std.specs.Prelude.{◌≡◌, ℕ, ◌<◌, get_or};
+ghost use Rattle.automaton.specs.Ranks.{rank, close_up};
 ghost use Rattle.nodes.specs.Numbers.{bits_of};
 ghost use Rattle.region.specs.Arrays.{value_digits, rank_digits};
 
-// Whether a value occurs among the first clocks.
-pub(crate) fn occurs_in(class: [u8; 4], clocks: usize, v: u8) -> bool
-    requires { clocks ≤ 4 }
-    ensures { result ≡ occurs v (take clocks class) }
-{
-    for j in 0..clocks {
-        if v == class[j] {
-            return true;
-        }
-    }
-    false
+use std::array;
+
+// The classes, and a hexadecimal digit for each t below 8: its rank among them.
+#[derive(Clone, Copy)]
+pub(crate) struct Ranks {
+    class: [u8; 4],
+    digits: u32,
+    ghost low: { (j : ℕ) → get_or class j 0 < 8 },
+    ghost ranked: { digits ≡ rank_digits class },
 }
 
 // A hexadecimal digit for each value below 8: 1 where it occurs.
@@ -24,57 +21,36 @@ fn value_digits(class: [u8; 4]) -> u32
     ensures { result ≡ value_digits class }
 {
     let mut digits: u32 = 0;
-    for j in 0..4usize {
-        digits = digits | (1 << (4 * (class[j] as u32)));
+    for k in class {
+        digits |= 1 << (4 * u32::from(k));
     }
     digits
 }
 
-// A hexadecimal digit for each t below 8: its rank. The product adds the digit of each value, but for that of 0, to its own place and to all above it.
-fn rank_digits(class: [u8; 4]) -> u32
-    requires { (j : ℕ) → get_or class j 0 < 8 }
-    ensures { result ≡ rank_digits class }
-{
-    let above_0 = (value_digits(class) & 0xffff_fff0) as u64;
-    (above_0 * 0x1111_1111 % 0x1_0000_0000) as u32
-}
-
-fn digit(digits: u32, t: u8) -> u8
-    requires { t < 8 }
-    ensures { result ≡ bits_of digits 4 (4 * t) }
-{
-    crate::numbers::bits(digits as u64, 4, 4 * (t as u32))
-}
-
-// How many of the values 1 to t occur.
-pub(crate) fn rank_of(class: [u8; 4], t: u8) -> u8
-    requires { ((j : ℕ) → get_or class j 0 < 8) × (t < 8) }
-    ensures { result ≡ rank class t }
-{
-    digit(rank_digits(class), t)
-}
-
-// Emptied ranks close up.
-pub(crate) fn close_up(class: [u8; 4]) -> [u8; 4]
-    requires { (j : ℕ) → get_or class j 0 < 8 }
-    ensures { result ≡ close_up class }
-{
-    let digits = rank_digits(class);
-    let mut closed = [0u8; 4];
-    for j in 0..4usize {
-        closed[j] = digit(digits, class[j]);
+impl Ranks {
+    // The product adds the digit of each value, but for that of 0, to its own place and to all above it.
+    pub(crate) fn of(class: [u8; 4]) -> Ranks
+        requires { (j : ℕ) → get_or class j 0 < 8 }
+        ensures { result.class ≡ class }
+    {
+        let above_0 = u64::from(value_digits(class) & 0xffff_fff0);
+        let digits = (above_0 * 0x1111_1111 % 0x1_0000_0000) as u32;
+        Ranks { class, digits }
     }
-    closed
-}
 
-fn larger(a: u8, b: u8) -> u8
-    ensures { result ≡ max a b }
-{
-    if a < b { b } else { a }
-}
+    // How many of the values 1 to t occur.
+    pub(crate) fn rank(self, t: u8) -> u8
+        requires { t < 8 }
+        ensures { result ≡ rank self.class t }
+    {
+        crate::numbers::bits(u64::from(self.digits), 4, 4 * u32::from(t))
+    }
 
-pub(crate) fn largest_of(class: [u8; 4]) -> u8
-    ensures { result ≡ largest class }
-{
-    larger(class[0], larger(class[1], larger(class[2], class[3])))
+    // Emptied ranks close up.
+    pub(crate) fn closed_up(self) -> [u8; 4]
+        ensures { result ≡ close_up self.class }
+    {
+        let class = self.class;
+        array::from_fn(|j| self.rank(class[j]))
+    }
 }

@@ -1,36 +1,23 @@
 -- Each question by its answer.
 use mathlib.Core.Path.{◌≡◌, sym, ap, ◌∙◌}
-use mathlib.Core.Bool.{Bool, true, false}
+use mathlib.Core.Bool.{Bool, true, false, ◌&&◌}
+use mathlib.Core.Option.{none, some}
 use mathlib.Core.List.{List}
 use Prim.Native.Nat.{ℕ, ◌+◌, ◌≤◌, ◌<◌}
 use borrow.Author.Tests.{lt-leb, le-leb, lt-ltb, le-ltb, eq-eqb, ne_eqb}
 use lib.Dec.{eqb}
 use lib.ListN.{length}
+use Rattle.refusals.specs.Numbers.{number_of}
+use Rattle.refusals.specs.declared.Refusal.{Refusal}
 use Rattle.sheet.specs.Bytes.{byte_at}
-use Rattle.sheet.specs.Maps.{bit_of, stands}
-use Rattle.sheet.specs.Fields.{Edition, is_within, field_of, permitted_field, in_range}
-use Rattle.sheet.specs.Records.{map_bytes, map_of, field_place, value_at, record_length, record_at, edition_of, location_at, locations_in, clocks_in, edges_in}
-use Rattle.sheet.specs.Questions.{ask, or_else, each, first_of, where_there, bit_good, map_refusal, field_good, ends_refusal, location_refusal, edge_refusal, distinct_refusal, start_refusal, rest_refusal, records_refusal, check_of}
+use Rattle.sheet.specs.Fields.{is_within, field_of, in_range}
+use Rattle.sheet.specs.Records.{map_bytes, map_of, field_at, record_length, record_at, edition_of, location_at, locations_in, clocks_in, edges_in}
+use Rattle.sheet.specs.Questions.{ask, or_else, each, where_there, bit_good, map_refusal, field_good, fields_refusal, bounds_refusal, ends_refusal, location_refusal, edge_refusal, record_refusal, distinct_refusal, start_refusal, rest_refusal, records_refusal, check_of}
 use Rattle.sheet.specs.declared.fields.Kind.{Kind}
-use Rattle.sheet.specs.declared.fields.Kind.TheVariants.{EdgeRecord}
-use Rattle.sheet.proofs.RecordLaws.{absent, there}
-use Rattle.sheet.proofs.QuestionLaws.{or_zero, or_first, first_is}
-
-pub clear : (m b : ℕ) → bit_of m b ≡ 0 → stands m b ≡ false
-clear m b h = simp (eq-eqb _ _ h)
-
-pub set_bit : (m b : ℕ) → (bit_of m b ≡ 0 → ⊥) → stands m b ≡ true
-set_bit m b h = simp (ne_eqb _ _ h)
+use Rattle.sheet.specs.declared.fields.Kind.TheVariants.{LocationRecord, EdgeRecord}
+use Rattle.sheet.proofs.QuestionLaws.{stops, goes_on}
 
 -- ---- questions 5 and 6
-
-pub bit_clear : (y : Edition) (kind : Kind) (k m b : ℕ) → bit_of m b ≡ 0 → bit_good y kind k m b ≡ true
-unfolding bit_good
-bit_clear y kind k m b h = simp (eq-eqb _ _ h)
-
-pub bit_is : (y : Edition) (kind : Kind) (k m b : ℕ) → (bit_of m b ≡ 0 → ⊥) → bit_good y kind k m b ≡ permitted_field k (field_of y kind b)
-unfolding bit_good
-bit_is y kind k m b h = simp (ne_eqb _ _ h)
 
 module _ (kind : Kind) (k : ℕ) (s : List ℕ) (at : ℕ) where
   pub no_map : length s < at + map_bytes kind → 5 ≡ map_refusal kind k s at
@@ -53,31 +40,46 @@ module _ (kind : Kind) (k : ℕ) (s : List ℕ) (at : ℕ) where
 
   -- ---- question 8
 
-  pub no_field : (b : ℕ) → bit_of (map_of kind s at) b ≡ 0 → field_good kind k s at b ≡ true
+  pub no_field : (b : ℕ) → field_at kind s at b ≡ none → field_good kind k s at b ≡ true
   unfolding field_good
-  no_field b h = ap (where_there (in_range k (field_of (edition_of s) kind b))) (absent kind s at b h)
+  no_field b = ap (where_there (in_range k (field_of (edition_of s) kind b)))
 
-  pub field_is : (b : ℕ) → (bit_of (map_of kind s at) b ≡ 0 → ⊥)
-      → field_good kind k s at b ≡ in_range k (field_of (edition_of s) kind b) (value_at s (field_place kind s at b) b)
+  pub field_is : (b v : ℕ) → field_at kind s at b ≡ some v → field_good kind k s at b ≡ in_range k (field_of (edition_of s) kind b) v
   unfolding field_good
-  field_is b h = ap (where_there (in_range k (field_of (edition_of s) kind b))) (there kind s at b h)
+  field_is b v = ap (where_there (in_range k (field_of (edition_of s) kind b)))
 
 -- ---- question 9
 
 module _ (l : ℕ) (s : List ℕ) (at : ℕ) where
-  pub no_source : l ≤ byte_at s (at + 2) → 9 ≡ ends_refusal l s at
-  unfolding ends_refusal
-  no_source h = simp (le-ltb _ _ h)
-
   pub no_target : byte_at s (at + 2) < l → l ≤ byte_at s (at + 3) → 9 ≡ ends_refusal l s at
   unfolding ends_refusal
   no_target h k = simp (lt-ltb _ _ h, le-ltb _ _ k)
 
-  pub ends_there : byte_at s (at + 2) < l → byte_at s (at + 3) < l → 0 ≡ ends_refusal l s at
-  unfolding ends_refusal
-  ends_there h k = simp (lt-ltb _ _ h, lt-ltb _ _ k)
+-- ---- a record of either kind
 
--- ---- each record in turn, and what follows the last
+module _ (kind : Kind) (k l : ℕ) (s : List ℕ) (at : ℕ) where
+  pub map_first : (r : Refusal) → number_of r ≡ map_refusal kind k s at → number_of r ≡ record_refusal kind k l s at
+  unfolding location_refusal edge_refusal
+  map_first r = by kind
+    where
+      by : (y : Kind) → number_of r ≡ map_refusal y k s at → number_of r ≡ record_refusal y k l s at
+      by LocationRecord h = stops r _ _ h
+      by EdgeRecord h = stops r _ _ h
+
+  module _ (map-good : 0 ≡ map_refusal kind k s at) (x : ℕ) where
+    pub of_location : kind ≡ LocationRecord → x ≡ or_else (bounds_refusal k s at) (fields_refusal kind k s at) → x ≡ record_refusal kind k l s at
+    unfolding location_refusal
+    of_location e h = goes_on x _ _ (map-good ∙ ap (λ (y : Kind). map_refusal y k s at) e)
+        (h ∙ ap (λ (y : Kind). or_else (bounds_refusal k s at) (fields_refusal y k s at)) e)
+        ∙ ap (λ (y : Kind). record_refusal y k l s at) (sym e)
+
+    pub of_edge : kind ≡ EdgeRecord → x ≡ or_else (fields_refusal kind k s at) (ends_refusal l s at) → x ≡ record_refusal kind k l s at
+    unfolding edge_refusal
+    of_edge e h = goes_on x _ _ (map-good ∙ ap (λ (y : Kind). map_refusal y k s at) e)
+        (h ∙ ap (λ (y : Kind). or_else (fields_refusal y k s at) (ends_refusal l s at)) e)
+        ∙ ap (λ (y : Kind). record_refusal y k l s at) (sym e)
+
+-- ---- what follows the last record
 
 asked_no : (n : ℕ) (t : Bool) (r : ℕ) → t ≡ false → n ≡ ask n t r
 asked_no n t r e = sym (ap (λ (b : Bool). ask n b r) e)
@@ -86,46 +88,18 @@ asked_yes : (n : ℕ) (t : Bool) (r : ℕ) → t ≡ true → r ≡ ask n t r
 asked_yes n t r e = sym (ap (λ (b : Bool). ask n b r) e)
 
 module _ (k l e : ℕ) (s : List ℕ) where
-  abbrev pub of_location : ℕ → ℕ
-  of_location i = location_refusal k s (location_at s i)
+  pub bytes_left : (record_at EdgeRecord s (location_at s l) e ≡ length s → ⊥) → 10 ≡ rest_refusal k l e s
+  unfolding rest_refusal
+  bytes_left n = asked_no 10 (eqb (record_at EdgeRecord s (location_at s l) e) (length s)) _ (ne_eqb _ _ n)
 
-  abbrev pub of_edge : ℕ → ℕ
-  of_edge i = edge_refusal k l s (record_at EdgeRecord s (location_at s l) i)
+  module _ (all-used : record_at EdgeRecord s (location_at s l) e ≡ length s) where
+    pub entered_twice : (r : Refusal) → number_of r ≡ distinct_refusal e s (location_at s l) → number_of r ≡ rest_refusal k l e s
+    unfolding rest_refusal
+    entered_twice r h = stops r _ _ h ∙ asked_yes 10 (eqb (record_at EdgeRecord s (location_at s l) e) (length s)) _ (eq-eqb _ _ all-used)
 
-  pub location_refused : (i : ℕ) → i < l → first_of i of_location ≡ 0 → (of_location i ≡ 0 → ⊥) → of_location i ≡ records_refusal k l e s
-  unfolding records_refusal
-  location_refused i h z n =
-      let d : first_of l of_location ≡ of_location i = first_is l of_location i h z n in
-      sym (or_first (first_of l of_location) (or_else (first_of e of_edge) (rest_refusal k l e s)) (λ q. n (sym d ∙ q)) ∙ d)
-
-  module _ (locations-pass : first_of l of_location ≡ 0) where
-    pub edge_refused : (i : ℕ) → i < e → first_of i of_edge ≡ 0 → (of_edge i ≡ 0 → ⊥) → of_edge i ≡ records_refusal k l e s
-    unfolding records_refusal
-    edge_refused i h z n =
-        let d : first_of e of_edge ≡ of_edge i = first_is e of_edge i h z n in
-        sym (or_zero (first_of l of_location) (or_else (first_of e of_edge) (rest_refusal k l e s)) locations-pass
-        ∙ or_first (first_of e of_edge) (rest_refusal k l e s) (λ q. n (sym d ∙ q)) ∙ d)
-
-    module _ (edges-pass : first_of e of_edge ≡ 0) where
-      records_pass : rest_refusal k l e s ≡ records_refusal k l e s
-      unfolding records_refusal
-      records_pass = sym (or_zero (first_of l of_location) (or_else (first_of e of_edge) (rest_refusal k l e s)) locations-pass
-          ∙ or_zero (first_of e of_edge) (rest_refusal k l e s) edges-pass)
-
-      pub bytes_left : (record_at EdgeRecord s (location_at s l) e ≡ length s → ⊥) → 10 ≡ records_refusal k l e s
-      unfolding rest_refusal
-      bytes_left n = asked_no 10 (eqb (record_at EdgeRecord s (location_at s l) e) (length s)) _ (ne_eqb _ _ n) ∙ records_pass
-
-      module _ (all-used : record_at EdgeRecord s (location_at s l) e ≡ length s) where
-        pub entered_twice : (distinct_refusal e s (location_at s l) ≡ 0 → ⊥) → distinct_refusal e s (location_at s l) ≡ records_refusal k l e s
-        unfolding rest_refusal
-        entered_twice n = sym (or_first (distinct_refusal e s (location_at s l)) (start_refusal k s) n)
-            ∙ asked_yes 10 (eqb (record_at EdgeRecord s (location_at s l) e) (length s)) _ (eq-eqb _ _ all-used) ∙ records_pass
-
-        pub all_distinct : distinct_refusal e s (location_at s l) ≡ 0 → start_refusal k s ≡ records_refusal k l e s
-        unfolding rest_refusal
-        all_distinct z = sym (or_zero (distinct_refusal e s (location_at s l)) (start_refusal k s) z)
-            ∙ asked_yes 10 (eqb (record_at EdgeRecord s (location_at s l) e) (length s)) _ (eq-eqb _ _ all-used) ∙ records_pass
+    pub all_distinct : (x : ℕ) → 0 ≡ distinct_refusal e s (location_at s l) → x ≡ start_refusal k s → x ≡ rest_refusal k l e s
+    unfolding rest_refusal
+    all_distinct x z h = goes_on x _ _ z h ∙ asked_yes 10 (eqb (record_at EdgeRecord s (location_at s l) e) (length s)) _ (eq-eqb _ _ all-used)
 
 -- ---- questions 2 to 4
 
@@ -140,20 +114,13 @@ module _ (s : List ℕ) where
     bad_edition i = simp (h, i)
 
     module _ (i : is_within (byte_at s 0) 1 2 ≡ true) where
-      pub bad_locations : is_within (locations_in s) 1 12 ≡ false → 4 ≡ check_of s
+      abbrev pub counts_good : Bool
+      counts_good = is_within (locations_in s) 1 12 && (is_within (clocks_in s) 1 (edition_of s).clocks && is_within (edges_in s) 0 32)
+
+      pub bad_counts : counts_good ≡ false → 4 ≡ check_of s
       unfolding check_of
-      bad_locations a = simp (h, i, a)
+      bad_counts a = simp (h, i, a)
 
-      module _ (a : is_within (locations_in s) 1 12 ≡ true) where
-        pub bad_clocks : is_within (clocks_in s) 1 (edition_of s).clocks ≡ false → 4 ≡ check_of s
-        unfolding check_of
-        bad_clocks b = simp (h, i, a, b)
-
-        module _ (b : is_within (clocks_in s) 1 (edition_of s).clocks ≡ true) where
-          pub bad_edges : is_within (edges_in s) 0 32 ≡ false → 4 ≡ check_of s
-          unfolding check_of
-          bad_edges c = simp (h, i, a, b, c)
-
-          pub header_good : is_within (edges_in s) 0 32 ≡ true → records_refusal (clocks_in s) (locations_in s) (edges_in s) s ≡ check_of s
-          unfolding check_of
-          header_good c = simp (h, i, a, b, c)
+      pub header_good : counts_good ≡ true → records_refusal (clocks_in s) (locations_in s) (edges_in s) s ≡ check_of s
+      unfolding check_of
+      header_good a = simp (h, i, a)

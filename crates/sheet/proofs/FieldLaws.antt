@@ -1,30 +1,16 @@
 -- Fields and their ranges.
-use mathlib.Core.Path.{◌≡◌, refl, ap}
+use mathlib.Core.Path.{◌≡◌, refl}
 use mathlib.Core.Bool.{Bool, true, false, cond, ◌&&◌}
-use Prim.Native.Nat.{ℕ, zero, suc, ◌+◌, ◌-◌, ◌≤◌, ◌<◌}
-use native.Mathlib.Nat.{zero-add}
+use Prim.Native.Nat.{ℕ, suc, ◌+◌, ◌-◌, ◌≤◌, ◌<◌}
 use native.Mathlib.Omega.{arith}
-use borrow.Author.Tests.{lt-leb, le-leb, lt-ltb, le-ltb, ltb-true, ltb-false, leb-true, ne_eqb}
+use borrow.Author.Tests.{lt-leb, le-leb, lt-ltb, le-ltb, leb-true, ne_eqb}
 use lib.Dec.{leb, eqb}
-use lib.IntN.{ℤ, pos, negsuc, ◌-ℤ◌}
-use lib.Signed.{lt_z, le_z}
-use mir.Syntax.{w16}
-use mir.Val.{SFits, of_z}
+use lib.IntN.{negsuc}
 use Rattle.sheet.specs.Fields.{Edition, first_edition, second_edition, edition_at, is_within, cost_in_range, field_of}
 use Rattle.sheet.specs.declared.fields.Kind.TheVariants.{LocationRecord, EdgeRecord}
 use Rattle.sheet.specs.declared.fields.Field.TheVariants.{Lower, Upper, Unused}
 
-pub minus_one : (n : ℕ) → negsuc 0 -ℤ pos n ≡ negsuc n
-minus_one zero = refl
-minus_one (suc n) = ap (λ (x : ℕ). negsuc (suc x)) (zero-add n)
-
 -- ---- a number within bounds
-
-pub too_low : (v low high : ℕ) → v < low → false ≡ is_within v low high
-too_low v low high h = simp (lt-leb _ _ h)
-
-pub not_too_low : (v low high : ℕ) → low ≤ v → leb v high ≡ is_within v low high
-not_too_low v low high h = simp (le-leb _ _ h)
 
 pub bounds : (v low high : ℕ) → is_within v low high ≡ true → (low ≤ v) × (v ≤ high)
 bounds v low high = by (leb low v) refl
@@ -35,22 +21,9 @@ bounds v low high = by (leb low v) refl
 
 -- ---- a cost
 
-pub no_cost : (z : ℤ) → SFits w16 z → of_z w16 z ≡ 0 → false ≡ cost_in_range z
+pub low_cost : (n : ℕ) → 9999 < n → false ≡ cost_in_range (negsuc n)
 unfolding cost_in_range
-no_cost (pos zero) f h = refl
-no_cost (pos (suc n)) f h = absurd (omega arith)
-no_cost (negsuc n) f h = absurd (omega (arith, f.sfits))
-
-pub low_cost : (z : ℤ) → lt_z z (negsuc 9999) ≡ true → false ≡ cost_in_range z
-unfolding cost_in_range
-low_cost (pos n) h = let w : ◌≡◌ {A = ℕ} 0 1 = cc in absurd (omega arith)
-low_cost (negsuc n) h = simp (ne_eqb (suc n) 0 (λ e. omega arith), lt-leb (suc n) 10000 (omega (arith, ltb-true 9999 n h)))
-
-pub other_cost : (z : ℤ) → (of_z w16 z ≡ 0 → ⊥) → lt_z z (negsuc 9999) ≡ false → le_z z (pos 10000) ≡ cost_in_range z
-unfolding cost_in_range
-other_cost (pos zero) n h = absurd (n refl)
-other_cost (pos (suc m)) n h = simp (ne_eqb (suc m) 0 (λ e. omega arith))
-other_cost (negsuc m) n h = simp (ne_eqb (suc m) 0 (λ e. omega arith), le-leb (suc m) 10000 (omega (arith, ltb-false 9999 m h)))
+low_cost n h = simp (ne_eqb (suc n) 0 (λ e. omega arith), lt-leb (suc n) 10000 (omega arith))
 
 -- ---- editions, and what a bit stands for
 

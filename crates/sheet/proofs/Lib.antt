@@ -8,4 +8,5 @@ pub mod PairLaws
 pub mod CodeLaws
 pub mod AcceptedLaws
 pub mod DecodeLaws
+pub mod BlankLaws
 pub mod Examples

@@ -8,6 +8,7 @@ use native.Mathlib.Nat.{add-zero}
 use native.Mathlib.Omega.{arith}
 use borrow.Author.Tests.{ne_eqb, eqb-true, eqb-false}
 use lib.Dec.{eqb}
+use lib.ListN.{get_or}
 use Rattle.sheet.specs.Bytes.{byte_at, word_at}
 use Rattle.sheet.specs.Maps.{place_of}
 use Rattle.sheet.specs.Records.{record_length, record_at}
@@ -16,6 +17,7 @@ use Rattle.sheet.specs.Decoded.{filled}
 use Rattle.sheet.specs.Keys.{key_of, blank_key}
 use Rattle.sheet.specs.declared.keys.Key.{Key}
 use Rattle.sheet.specs.declared.fields.Kind.TheVariants.{EdgeRecord}
+use Rattle.sheet.proofs.DecodeLaws.{filled_at}
 use Rattle.sheet.proofs.RecordLaws.{four_there}
 use Rattle.sheet.proofs.QuestionLaws.{each_fails, answer_no, answer_yes}
 
@@ -70,6 +72,10 @@ module _ (s : List ℕ) (from : ℕ) where
   -- record j differs from all before it
   abbrev pub is_new : ℕ → Bool
   is_new j = each j (differs j)
+
+  -- one of those keys
+  pub kept : (k : List Key) (i j : ℕ) → k ≡ keys j → i < j → j ≤ 32 → get_or k i blank_key ≡ key_of s (begins i)
+  kept k i j h l m = ap (λ (k : List Key). get_or k i blank_key) h ∙ filled_at (λ i. key_of s (begins i)) blank_key 32 j i m l
 
   -- records i and j were compared
   pub compared : (i j : ℕ) (x y : Key) (r : Bool) → x ≡ key_of s (begins i) → y ≡ key_of s (begins j) → r ≡ same_record s x.at y.at → differs j i ≡ not r

@@ -1,11 +1,14 @@
 -- Questions asked in a loop: of each number below n, or of each record in turn.
 use mathlib.Core.Path.{◌≡◌, refl, sym, ap, ap₂, subst, ◌∙◌}
-use mathlib.Core.Bool.{Bool, true, false, not, ◌&&◌}
+use mathlib.Core.Bool.{Bool, true, false, ◌&&◌}
 use Prim.Native.Nat.{ℕ, zero, suc, ◌+◌, ◌≤◌, ◌<◌}
 use native.Mathlib.Numerals.{add-one}
 use native.Mathlib.Decide.{ℕ_discrete}
 use native.Mathlib.Omega.{arith}
-use borrow.Author.Tests.{eq-eqb, ne_eqb, not-true, not-false}
+use borrow.Author.Tests.{eq-eqb, ne_eqb}
+use Rattle.refusals.specs.Numbers.{number_of}
+use Rattle.refusals.specs.declared.Refusal.{Refusal}
+use Rattle.refusals.proofs.Laws.{never_0}
 use Rattle.sheet.specs.Questions.{ask, or_else, each, first_of}
 use Rattle.sheet.proofs.AcceptedLaws.{left, right}
 
@@ -46,10 +49,10 @@ each_true (suc n) p h = ap₂ ◌&&◌ (each_true n p (λ i l. h i (omega arith)
 
 -- ---- the first that is not 0
 
-pub or_zero : (a b : ℕ) → a ≡ 0 → or_else a b ≡ b
+or_zero : (a b : ℕ) → a ≡ 0 → or_else a b ≡ b
 or_zero a b h = simp (eq-eqb _ _ h)
 
-pub or_first : (a b : ℕ) → (a ≡ 0 → ⊥) → or_else a b ≡ a
+or_first : (a b : ℕ) → (a ≡ 0 → ⊥) → or_else a b ≡ a
 or_first a b h = simp (ne_eqb _ _ h)
 
 pub first_none : (f : ℕ → ℕ) → first_of 0 f ≡ 0
@@ -80,22 +83,10 @@ each_all k p i h l e = let q : k ≡ i = omega arith in ap (λ (j : ℕ). each j
 pub answer_yes : (n k : ℕ) (p : ℕ → Bool) (i : ℕ) → i ≤ k → k ≤ i → each i p ≡ true → 0 ≡ ask n (each k p) 0
 answer_yes n k p i h l e = sym (ap (λ (t : Bool). ask n t 0) (each_all k p i h l e))
 
--- ---- three numbers, one after the other: r is the first that is not 0
+-- ---- one question after another: the first refusal answers
 
-module _ (a b d r : ℕ) where
-  pub first_of_three : r ≡ a → (r ≡ 0 → ⊥) → r ≡ or_else a (or_else b d)
-  first_of_three p n = p ∙ sym (or_first a (or_else b d) (λ e. n (p ∙ e)))
+pub stops : (r : Refusal) (a b : ℕ) → number_of r ≡ a → number_of r ≡ or_else a b
+stops r a b h = h ∙ sym (or_first a b (λ z. never_0 r (h ∙ z)))
 
-  pub second_of_three : {x : ℕ} → x ≡ a → x ≡ 0 → r ≡ b → (r ≡ 0 → ⊥) → r ≡ or_else a (or_else b d)
-  second_of_three p z q n = q ∙ sym (or_zero a (or_else b d) (sym p ∙ z) ∙ or_first b d (λ e. n (q ∙ e)))
-
-  pub third_of_three : {x y : ℕ} → x ≡ a → x ≡ 0 → y ≡ b → y ≡ 0 → r ≡ d → r ≡ or_else a (or_else b d)
-  third_of_three p z q y o = o ∙ sym (or_zero a (or_else b d) (sym p ∙ z) ∙ or_zero b d (sym q ∙ y))
-
--- ---- a test that a function answered, as the code takes it
-
-pub denied : (r t : Bool) → r ≡ t → not r ≡ true → t ≡ false
-denied r t p h = sym p ∙ not-true r h
-
-pub granted : (r t : Bool) → r ≡ t → not r ≡ false → t ≡ true
-granted r t p h = sym p ∙ not-false r h
+pub goes_on : (x a b : ℕ) → 0 ≡ a → x ≡ b → x ≡ or_else a b
+goes_on x a b z h = h ∙ sym (or_zero a b (sym z))

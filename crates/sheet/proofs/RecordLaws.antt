@@ -1,22 +1,19 @@
 -- Records, one after the other, and their fields.
 use mathlib.Core.Path.{◌≡◌, ap}
+use mathlib.Core.Bool.{true, false}
 use mathlib.Core.List.{List}
 use mathlib.Core.Option.{none, some}
 use Prim.Native.Nat.{ℕ, zero, suc, ◌+◌, ◌*◌, ◌≤◌, ◌<◌}
 use native.Mathlib.Numerals.{add-one}
 use native.Mathlib.Decide.{ℕ_discrete}
 use native.Mathlib.Omega.{arith}
-use borrow.Author.Tests.{lt-ltb, le-ltb, eq-eqb, ne_eqb}
+use borrow.Author.Tests.{lt-ltb, le-ltb}
 use Rattle.sheet.specs.Bytes.{byte_at, word_at}
-use Rattle.sheet.specs.Maps.{bit_of}
-use Rattle.sheet.specs.Records.{map_bytes, map_of, head_bytes, field_place, value_at, field_at, record_length, record_at}
+use Rattle.sheet.specs.Maps.{stands}
+use Rattle.sheet.specs.Records.{map_of, head_bytes, field_place, value_at, field_at, record_length, record_at}
 use Rattle.sheet.specs.declared.fields.Kind.{Kind}
 use Rattle.sheet.specs.declared.fields.Kind.TheVariants.{LocationRecord, EdgeRecord}
 use Rattle.sheet.proofs.MapLaws.{place_le}
-
-pub map-le : (kind : Kind) → map_bytes kind ≤ 2
-map-le LocationRecord = omega arith
-map-le EdgeRecord = omega arith
 
 pub head_le : (kind : Kind) → head_bytes kind ≤ 4
 head_le LocationRecord = omega arith
@@ -56,13 +53,13 @@ at_inside kind s from (suc n) i h = elim (ℕ_discrete i n) [
 -- ---- the field of bit b
 
 module _ (kind : Kind) (s : List ℕ) (at b : ℕ) where
-  pub absent : bit_of (map_of kind s at) b ≡ 0 → field_at kind s at b ≡ none
+  pub absent : stands (map_of kind s at) b ≡ false → field_at kind s at b ≡ none
   unfolding field_at
-  absent h = simp (eq-eqb _ _ h)
+  absent h = simp h
 
-  pub there : (bit_of (map_of kind s at) b ≡ 0 → ⊥) → field_at kind s at b ≡ some (value_at s (field_place kind s at b) b)
+  pub there : stands (map_of kind s at) b ≡ true → field_at kind s at b ≡ some (value_at s (field_place kind s at b) b)
   unfolding field_at
-  there h = simp (ne_eqb _ _ h)
+  there h = simp h
 
 pub value_word : (s : List ℕ) (p b : ℕ) → b < 2 → value_at s p b ≡ word_at s p
 unfolding value_at

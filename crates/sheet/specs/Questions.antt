@@ -65,6 +65,11 @@ location_refusal k s at = or_else (map_refusal LocationRecord k s at) (or_else (
 unfoldable pub edge_refusal : ℕ → ℕ → List ℕ → ℕ → ℕ
 edge_refusal k l s at = or_else (map_refusal EdgeRecord k s at) (or_else (fields_refusal EdgeRecord k s at) (ends_refusal l s at))
 
+-- those of a record of either kind
+abbrev pub record_refusal : Kind → ℕ → ℕ → List ℕ → ℕ → ℕ
+record_refusal LocationRecord k l s at = location_refusal k s at
+record_refusal EdgeRecord k l s at = edge_refusal k l s at
+
 -- the edge records at x and at y are the same bytes: as many, and each of them the same
 unfoldable pub same_record : List ℕ → ℕ → ℕ → Bool
 same_record s x y =

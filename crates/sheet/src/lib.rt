@@ -4,8 +4,10 @@
 pub mod fields;
 pub mod keys;
 
+use refusals::Refusal;
+
 // What a location record holds; absent prices are 0, and so are the bounds of clocks that the sheet does not have.
-#[derive(Clone, Copy)]
+#[derive(Clone, Copy, Default)]
 pub struct Location {
     pub cost: i16,
     pub reward: u16,
@@ -14,7 +16,7 @@ pub struct Location {
 
 // What an edge record holds; an absent upper guard is 255, which no byte of a sheet reaches. The guards stand first, so that each of the two lists
 // lies within eight bytes, as records are copied.
-#[derive(Clone, Copy)]
+#[derive(Clone, Copy, Default)]
 pub struct Edge {
     pub lower: [u8; 4],
     pub upper: [u8; 4],
@@ -25,10 +27,12 @@ pub struct Edge {
     pub reset: u8,
 }
 
-// A decoded sheet: the refusal, and where that is 0 the edition, the counts and the records, blank ones after them.
+// A decoded sheet: the refusal, or the edition, the counts and the records, blank ones after them.
 #[derive(Clone, Copy)]
 pub struct Sheet {
-    pub refusal: u8,
+    // Beside the records, and not a Result: `explore` promises what it answers of a refused sheet (`Explorable.not_refused`).
+    pub refusal: Option<Refusal>,
+    // Its byte and no enum: every byte has an edition (`edition_at`), and whoever is handed one promises an answer for each.
     pub edition: u8,
     pub locations: u8,
     pub clocks: u8,

@@ -16,8 +16,7 @@ use Rattle.nodes.specs.Meaning.{meaning, layout_of}
 use Rattle.nodes.proofs.CheckedLaws.{sound, room}
 use Rattle.nodes.proofs.Carried.{named, walk_named, walk_back}
 use Rattle.nodes.proofs.NumberLaws.{step_to_number, reached_is_number}
-use Rattle.region.specs.Answers.{refused_step, answered}
-use Rattle.region.specs.declared.Stepped.{Stepped}
+use Rattle.region.specs.Answers.{Stepped, refused_step, answered}
 use Rattle.step.specs.Step.{answer_at, step_of, asked}
 
 -- what an answer says is the step that it tells

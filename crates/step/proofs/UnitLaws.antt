@@ -17,8 +17,7 @@ use Rattle.automaton.proofs.Chains.{then_split}
 use Rattle.sheet.specs.Questions.{check_of}
 use Rattle.nodes.specs.Numbers.{is_number, step_by}
 use Rattle.nodes.specs.Meaning.{meaning, layout_of}
-use Rattle.region.specs.Answers.{refused_step, answered}
-use Rattle.region.specs.declared.Stepped.{Stepped}
+use Rattle.region.specs.Answers.{Stepped, refused_step, answered}
 use Rattle.step.specs.Step.{answer_at, step_of, asked, units_asked}
 
 -- an answer, by how the check and question 15 were answered

@@ -1,16 +1,25 @@
 -- A single step: what it answers for every byte string, number and code.
 use Rattle.std.specs.Prelude.{cond, List, [], ◌∷◌, ℕ, ◌+◌, eqb}
 use Rattle.std.proofs.Math.Option.{Option}
+use Rattle.std.specs.declared.result.Result.{Result}
+use Rattle.std.specs.declared.result.Result.TheVariants.{Ok, Err}
 use Rattle.automaton.specs.Tests.{only}
 use Rattle.automaton.specs.Automaton.{Automaton}
 use Rattle.automaton.specs.Priced.{Priced}
+use Rattle.refusals.specs.Numbers.{number_of, number_in}
+use Rattle.refusals.specs.declared.Refusal.{Refusal}
 use Rattle.sheet.specs.Questions.{check_of}
 use Rattle.sheet.specs.declared.Sheet.{Sheet}
 use Rattle.nodes.specs.Numbers.{Layout, is_number, step_by}
 use Rattle.nodes.specs.Meaning.{meaning, layout_of}
 use Rattle.nodes.specs.Decoded.{decoded_meaning, layout_in}
-use Rattle.region.specs.Answers.{refused_step, answered}
-use Rattle.region.specs.declared.Stepped.{Stepped}
+use Rattle.region.specs.Answers.{Stepped, refused_step, allowed_step, answered}
+use Rattle.region.specs.declared.Step.{Step}
+
+-- what a single step gave, by the number of its refusal
+abbrev pub step_answer : Result Step Refusal → Stepped
+step_answer (Ok s) = allowed_step s
+step_answer (Err r) = refused_step (number_of r)
 
 -- "For a single step, after 2 to 11": 15. "Is the number that of a node of this sheet?", and then 16
 unfoldable pub answer_at : Layout → Automaton → ℕ → ℕ → Stepped
@@ -22,7 +31,7 @@ step_of s x code = cond (eqb (check_of s) 0) (answer_at (layout_of s) (meaning s
 
 -- the same of a decoded sheet
 unfoldable pub step_in : Sheet → ℕ → ℕ → Stepped
-step_in s x code = cond (eqb s.refusal 0) (answer_at (layout_in s) (decoded_meaning s) x code) (refused_step s.refusal)
+step_in s x code = cond (eqb (number_in s.refusal) 0) (answer_at (layout_in s) (decoded_meaning s) x code) (refused_step (number_in s.refusal))
 
 -- a single step as walks are made of: where it leads, or nothing where it is refused
 abbrev pub asked : List ℕ → ℕ → ℕ → Option (Priced ℕ)

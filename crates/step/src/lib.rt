@@ -1,36 +1,22 @@
 // One step of a sheet.
 #![tactic(auto)]
 
-ghost use Rattle.std.specs.Prelude.{◌≡◌, ◌≤◌, get_or};
+ghost use Rattle.std.specs.Prelude.{◌≡◌, get_or};
 ghost use Rattle.nodes.specs.Numbers.{is_number, step_by};
 ghost use Rattle.nodes.specs.Decoded.{decoded_meaning, layout_in};
-ghost use Rattle.sheet.specs.Decoded.{blank_edge, blank_location};
+ghost use Rattle.sheet.specs.Decoded.{blank_location};
 ghost use Rattle.region.specs.Answers.{answered};
-ghost use Rattle.step.specs.Step.{step_of, step_in};
+ghost use Rattle.step.specs.Step.{step_answer, step_of, step_in};
 
-use region::Stepped;
-use sheet::{Edge, Location, Sheet};
+use refusals::Refusal;
+use region::Step;
+use sheet::{Location, Sheet};
 
 // The record of a location, a blank one past the last.
 fn location_record(all: [Location; 12], l: usize) -> Location
     ensures { result ≡ get_or all l blank_location }
 {
-    if l < 12 {
-        return all[l];
-    }
-    Location {
-        cost: 0,
-        reward: 0,
-        upper: [0, 0, 0, 0],
-    }
-}
-
-// The record of an edge.
-fn edge_record(all: [Edge; 32], e: usize) -> Edge
-    requires { e ≤ 31 }
-    ensures { result ≡ get_or all e blank_edge }
-{
-    all[e]
+    all.get(l).copied().unwrap_or(Location::default())
 }
 
 // Question 15.
@@ -41,21 +27,19 @@ fn is_number_of(sheet: Sheet, number: u64) -> bool
     if sheet.locations <= l {
         return false;
     }
-    let locations = sheet.location;
-    let location = location_record(locations, l as usize);
+    let location = location_record(sheet.location, usize::from(l));
     region::corners::is_number(number, sheet.edition, sheet.clocks, location)
 }
 
 // Question 16.
-fn step_from(sheet: Sheet, number: u64, code: u16) -> Stepped
-    ensures { result ≡ answered code (step_by (layout_in sheet) (decoded_meaning sheet) number code) }
+fn step_from(sheet: Sheet, number: u64, code: u16) -> Result<Step, Refusal>
+    ensures { step_answer result ≡ answered code (step_by (layout_in sheet) (decoded_meaning sheet) number code) }
 {
-    let k = code as usize;
-    let edges = sheet.edge;
-    let edge = edge_record(edges, k % 32);
-    let locations = sheet.location;
+    let k = usize::from(code);
+    let edges = stepper::edge_records(sheet.edge);
+    let edge = edges[k % 32];
     let l = stepper::location_needed(number, sheet.edition, k, edge.target);
-    let location = location_record(locations, l);
+    let location = location_record(sheet.location, l);
     stepper::step_at(
         number,
         k,
@@ -65,25 +49,26 @@ fn step_from(sheet: Sheet, number: u64, code: u16) -> Stepped
         edge,
         location,
     )
+    .ok_or(Refusal::NotAllowed)
 }
 
 // One step of a decoded sheet: its refusal, then questions 15 and 16.
-fn step_in(sheet: Sheet, number: u64, code: u16) -> Stepped
-    ensures { result ≡ step_in sheet number code }
+fn step_in(sheet: Sheet, number: u64, code: u16) -> Result<Step, Refusal>
+    ensures { step_answer result ≡ step_in sheet number code }
 {
     let refusal = sheet.refusal;
-    if refusal != 0 {
-        return region::refused(refusal);
+    if let Some(refused) = refusal {
+        return Err(refused);
     }
     if !is_number_of(sheet, number) {
-        return region::refused(15);
+        return Err(Refusal::NoNode);
     }
     step_from(sheet, number, code)
 }
 
 // One step: the questions of the check, then 15 and 16.
-pub fn step(sheet: &[u8], number: u64, code: u16) -> Stepped
-    ensures { result ≡ step_of sheet.now number code }
+pub fn step(sheet: &[u8], number: u64, code: u16) -> Result<Step, Refusal>
+    ensures { step_answer result ≡ step_of sheet.now number code }
 {
     step_in(reader::read(sheet), number, code)
 }

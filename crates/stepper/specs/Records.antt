@@ -6,8 +6,7 @@ use Rattle.sheet.specs.declared.Location.{Location}
 use Rattle.sheet.specs.declared.Sheet.{Sheet}
 use Rattle.nodes.specs.Numbers.{layout_at, bits_of, step_by}
 use Rattle.nodes.specs.Decoded.{location_in, edge_in, alone}
-use Rattle.region.specs.Answers.{refused_step, answered}
-use Rattle.region.specs.declared.Stepped.{Stepped}
+use Rattle.region.specs.Answers.{Stepped, refused_step, answered}
 
 -- the location that a number tells
 abbrev pub location_told : ℕ → ℕ → ℕ

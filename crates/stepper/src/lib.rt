@@ -3,9 +3,10 @@
 
 ghost use Rattle.std.specs.Prelude.{◌≡◌, ℕ, ◌<◌, length, get_or};
 ghost use Rattle.sheet.specs.Decoded.{blank_location};
+ghost use Rattle.region.specs.Answers.{stepped_of};
 ghost use Rattle.stepper.specs.Records.{leaves_elsewhere, location_needed, step_by_records};
 
-use region::Stepped;
+use region::Step;
 use sheet::{Edge, Location};
 
 // The edges' records: that there are 32 of them is told of a parameter, and not of a field.
@@ -20,25 +21,9 @@ pub fn location_records(locations: [Location; 12]) -> [Location; 256]
     ensures room { length result ≡ 256 }
     ensures copied { ((l : ℕ) → l < 256 → get_or result l blank_location ≡ get_or locations l blank_location) }
 {
-    let blank = Location {
-        cost: 0,
-        reward: 0,
-        upper: [0, 0, 0, 0],
-    };
-    let mut all = [blank; 256];
-    let mut i = 0;
-    while i < 12 {
-        let location = locations[i];
-        all[i] = location;
-        i += 1;
-    }
+    let mut all = [Location::default(); 256];
+    all[..12].copy_from_slice(&locations);
     all
-}
-
-fn as_index(x: u8) -> usize
-    ensures { (result ≡ x) × (result < 256) }
-{
-    x as usize
 }
 
 // Whether the code is that of an edge which leaves another location than the node's: most do, and they are passed over.
@@ -57,13 +42,15 @@ pub fn location_needed(number: u64, edition: u8, code: usize, target: u8) -> usi
     ensures small { result < 256 }
 {
     if code < 32 {
-        return as_index(target);
+        return usize::from(target);
     }
-    as_index(region::location_in(number, edition))
+    usize::from(region::location_in(number, edition))
 }
 
 // Question 16 of a code at a node of a sheet with this edition and these counts of clocks and edges. Takes for granted that the number is a node's
 // (question 15 is not asked), that `edge` is the record of the code's edge and `location` that of the location needed.
+// A code is a number, as it stands in the lent buffers: `step_by_records` answers each of them. The edition and the counts stay apart, as it names them:
+// a struct of them would be made for each call and taken apart in it.
 pub fn step_at(
     number: u64,
     code: usize,
@@ -72,18 +59,18 @@ pub fn step_at(
     edges: u8,
     edge: Edge,
     location: Location,
-) -> Stepped
-    ensures { result ≡ step_by_records number code edition clocks edges edge location }
+) -> Option<Step>
+    ensures { stepped_of result ≡ step_by_records number code edition clocks edges edge location }
 {
     match code {
         0..=31 => {
-            if as_index(edges) <= code {
-                return region::refused(16);
+            if usize::from(edges) <= code {
+                return None;
             }
             region::edges::edge_step(number, edition, clocks, edge, location)
         }
         32 => region::delays::unit_step(number, edition, clocks, location),
         33 => region::delays::move_step(number, edition, clocks, location),
-        _ => region::refused(16),
+        _ => None,
     }
 }

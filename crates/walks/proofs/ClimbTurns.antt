@@ -59,9 +59,12 @@ module _ {F par mark climbed : List ℕ} {n v x top : ℕ} (o : Marks mark climb
   }
 
   -- back at a marked node
-  pub climb_round : (at mark x ≡ 0 → ⊥) → Climbed F g.T g.W g.m g.D g.st climbed n v top (at mark x)
-  climb_round z = let c = climb_closed F g.T g.W g.m g.D g.st mark climbed n v x top o (k g) (g.reached x o.here) (omega arith) in record {
-    climbed_len = o.climbed_len;
-    cycle = λ _. (c.1, c.2);
-    root = λ h. absurd (omega (arith, c.0));
-  }
+  pub climb_round : (at mark x ≡ 0 → ⊥) → (top < at mark x) × Climbed F g.T g.W g.m g.D g.st climbed n v top (at mark x)
+  climb_round z = let c = climb_closed F g.T g.W g.m g.D g.st mark climbed n v x top o (k g) (g.reached x o.here) (omega arith) in (
+    omega (arith, c.0),
+    record {
+      climbed_len = o.climbed_len;
+      cycle = λ _. (c.1, c.2);
+      root = λ h. absurd (omega (arith, c.0));
+    },
+  )

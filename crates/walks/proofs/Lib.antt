@@ -1,7 +1,6 @@
 pub mod Walks
 pub mod Weights
 pub mod Tests
-pub mod Copies
 pub mod Signed
 pub mod Raised
 pub mod Rounds

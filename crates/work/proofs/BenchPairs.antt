@@ -25,9 +25,8 @@ use Rattle.contract.specs.BenchTable.{bench}
 use Rattle.contract.proofs.Rising.{same_count}
 use Rattle.contract.proofs.BenchTableHolds.{bench_accepted}
 use Rattle.contract.proofs.BenchLassos.{BenchCycle, leaves_early, leaves_late, no_stem, two_cycles}
-use Rattle.work.specs.Work.{PairBuffers, RoomForPairs, holding, WorkAccepted, Worked}
+use Rattle.work.specs.Work.{WorkAnswer, PairBuffers, RoomForPairs, holding, WorkAccepted, Worked}
 use Rattle.work.specs.BenchWorked.{BenchWorked}
-use Rattle.work.specs.declared.Lengths.{Lengths}
 use Rattle.work.proofs.JustWhen.{on_its_condition}
 
 closed : is_closed (meaning bench) ≡ true
@@ -46,7 +45,7 @@ cycle_of : {cycle : List ℕ} → BenchCycle cycle → cycle_pairs cycle ≡ onl
 cycle_of (leaves_early e) = ap cycle_pairs e ∙ bench_cycle
 cycle_of (leaves_late e) = ap cycle_pairs e ∙ bench_late_cycle
 
-module _ {before after : PairBuffers} {a : Lengths} (y : WorkAccepted bench before after a) where
+module _ {before after : PairBuffers} {a : WorkAnswer} (y : WorkAccepted bench before after a) where
   seven : y.n ≡ 7
   seven = let b = bench_accepted in let l = y.ratio.node_list in
       same_count y.n y.ratio.nodes 7 b.nodes l.rising b.node_list.rising
@@ -74,7 +73,7 @@ module _ {before after : PairBuffers} {a : Lengths} (y : WorkAccepted bench befo
   held : after ≡ holding (only ++ only) before
   held = y.written ∙ ap₂ (λ k l. holding (k ++ l) before) stem_pairs_lem cycle_pairs_lem
 
-pub bench_pairs : (before after : PairBuffers) (a : Lengths) → RoomForPairs before → Worked bench before after a → BenchWorked before after a
+pub bench_pairs : (before after : PairBuffers) (a : WorkAnswer) → RoomForPairs before → Worked bench before after a → BenchWorked before after a
 bench_pairs before after a room h = record {
   refusal = accepts;
   stem = y.stem_length ∙ ap length (stem_pairs_lem y);

@@ -2,15 +2,18 @@
 use mathlib.Core.Path.{◌≡◌, refl, sym, ap, ap₂, ◌∙◌, subst}
 use mathlib.Core.Bool.{Bool, ◌&&◌, not}
 use mathlib.Core.List.{List}
-use Prim.Native.Nat.{ℕ, ◌≤◌, ◌<◌}
+use Prim.Native.Nat.{ℕ, ◌<◌}
 use native.Mathlib.Omega.{arith}
 use borrow.Author.Tests.{eqb-true}
 use lib.Dec.{eqb}
-use lib.ListN.{get_or}
+use lib.ListN.{length, get_or, take}
+use Rattle.std.specs.Prelude.{min}
 use Rattle.automaton.specs.Tests.{only}
 use Rattle.automaton.proofs.Tests.{by_bool}
 use Rattle.sheet.specs.Questions.{where_there, check_of}
-use Rattle.sheet.specs.Decoded.{read_of}
+use Rattle.sheet.specs.Decoded.{read_of, blank_location, blank_edge}
+use Rattle.sheet.specs.declared.Edge.{Edge}
+use Rattle.sheet.specs.declared.Location.{Location}
 use Rattle.sheet.specs.declared.Sheet.{Sheet}
 use Rattle.sheet.proofs.FieldLaws.{edition_clocks}
 use Rattle.sheet.proofs.AcceptedLaws.{header}
@@ -20,7 +23,8 @@ use Rattle.nodes.proofs.DecodedLaws.{read_passed, read_agrees}
 use Rattle.explore.specs.Explorable.{CountsInRange}
 use Rattle.schedules.specs.Closed.{upper_closed, bounds_closed, guards_closed, is_closed}
 use Rattle.schedules.proofs.ClosedLaws.{each_same, closed_agrees}
-use Rattle.work.specs.PrivatePromises.{bounds_odd, guards_even_odd}
+use Rattle.work.specs.PrivatePromises.{all_of_parity, bounds_odd, guards_even_odd}
+use Rattle.work.proofs.EachLaws.{each_first}
 
 -- an absent upper guard is 255, which is odd
 guard_closed : (u : ℕ) → where_there upper_closed (guard_of u) ≡ upper_closed u
@@ -29,21 +33,24 @@ guard_closed u = by_bool (eqb u 255)
     (λ e. ap (λ (b : Bool). where_there upper_closed (only (not b) u)) e)
 
 module _ (s : Sheet) (fit : CountsInRange s.edition s.locations s.clocks s.edges) where
-  clocks_are : few_clocks s.edition s.clocks ≡ s.clocks
-  clocks_are = omega (arith, fit.clocks_in)
+  clocks_are : few_clocks s.edition s.clocks ≡ min s.clocks 4
+  clocks_are = omega (arith, fit.clocks_in, edition_clocks s.edition)
 
-  pub few_clocks_lem : s.clocks ≤ 4
-  few_clocks_lem = omega (arith, fit.clocks_in, edition_clocks s.edition)
-
-  pub bounds_are : bounds_closed (decoded_meaning s) ≡ bounds_odd s.location s.locations s.clocks
+  pub bounds_are : {n k : ℕ} → length s.location ≡ 12 → n ≡ s.locations → k ≡ s.clocks
+      → bounds_closed (decoded_meaning s) ≡ bounds_odd (take n s.location) k
   unfolding bounds_closed decoded_meaning
-  bounds_are = each_same s.locations s.locations _ _ refl (λ l h. each_same (few_clocks s.edition s.clocks) s.clocks _ _ clocks_are (λ j k. refl))
+  bounds_are long is_n is_k = each_same s.locations s.locations _ _ refl (λ l h. each_same (few_clocks s.edition s.clocks) (min s.clocks 4) _ _ clocks_are (λ j k. refl))
+      ∙ sym (each_first (λ (l : Location). all_of_parity l.upper s.clocks 1) s.location blank_location s.locations (omega (arith, fit.locations_in, long)))
+      ∙ sym (ap₂ (λ (n k : ℕ). bounds_odd (take n s.location) k) is_n is_k)
 
-  pub guards_are : guards_closed (decoded_meaning s) ≡ guards_even_odd s.edge s.edges s.clocks
+  pub guards_are : {n k : ℕ} → length s.edge ≡ 32 → n ≡ s.edges → k ≡ s.clocks
+      → guards_closed (decoded_meaning s) ≡ guards_even_odd (take n s.edge) k
   unfolding guards_closed decoded_meaning
-  guards_are = each_same s.edges s.edges _ _ refl (λ e h. ap₂ ◌&&◌
-      (each_same (few_clocks s.edition s.clocks) s.clocks _ _ clocks_are (λ j k. refl))
-      (each_same (few_clocks s.edition s.clocks) s.clocks _ _ clocks_are (λ j k. guard_closed (get_or (edge_in s e).upper j 0))))
+  guards_are long is_n is_k = each_same s.edges s.edges _ _ refl (λ e h. ap₂ ◌&&◌
+      (each_same (few_clocks s.edition s.clocks) (min s.clocks 4) _ _ clocks_are (λ j k. refl))
+      (each_same (few_clocks s.edition s.clocks) (min s.clocks 4) _ _ clocks_are (λ j k. guard_closed (get_or (edge_in s e).upper j 0))))
+      ∙ sym (each_first (λ (e : Edge). all_of_parity e.lower s.clocks 0 && all_of_parity e.upper s.clocks 1) s.edge blank_edge s.edges (omega (arith, fit.edges_in, long)))
+      ∙ sym (ap₂ (λ (n k : ℕ). guards_even_odd (take n s.edge) k) is_n is_k)
 
 module _ (bytes : List ℕ) (ok : check_of bytes ≡ 0) where
   pub some_clock : 0 < (meaning bytes).clocks

@@ -1,66 +1,58 @@
 -- The loop that goes through the codes up to the first edge.
-use mathlib.Core.Path.{◌≡◌, refl, sym, ap, ◌∙◌, subst}
+use mathlib.Core.Path.{◌≡◌, refl, sym, ap, ◌∙◌}
 use mathlib.Core.List.{List, [], ◌∷◌, ◌++◌, append_assoc, append-nil}
 use Prim.Native.Nat.{ℕ, ◌+◌, ◌≤◌, ◌<◌}
 use native.Mathlib.Numerals.{add-one}
 use native.Mathlib.Omega.{arith}
 use lib.ListN.{length, get_or, take, drop}
-use lib.Seq.{slice, slice_empty, slice-cons, take-suc, drop-append-le, length-take-le}
+use lib.Seq.{take_all, take-suc, drop-cons}
+use Rattle.std.proofs.lemmas.List.{drop_all}
 use Rattle.schedules.specs.Turning.{until_edge, past_edge}
 use Rattle.schedules.proofs.TurnLaws.{until_none, until_edge_lem, until_delay, past_none, past_edge_lem, past_delay}
 
 module _ (C : List ℕ) where
-  -- the codes from f up to i, and one more
-  slice_next : (f i : ℕ) → f ≤ i → i < length C → slice f (i + 1) C ≡ slice f i C ++ (get_or C i 0 ∷ [])
-  slice_next f i h l = ap (λ (j : ℕ). slice f j C) (add-one i) ∙ ap (drop f) (take-suc C i 0 l)
-      ∙ drop-append-le f (take i C) (get_or C i 0 ∷ []) (omega (arith, length-take-le i C (omega arith)))
+  -- one code more, and the codes from place i on, the first of them apart
+  one_more : (i : ℕ) → i < length C → take (i + 1) C ≡ take i C ++ (get_or C i 0 ∷ [])
+  one_more i h = ap (λ (j : ℕ). take j C) (add-one i) ∙ take-suc C i 0 h
 
-  -- those from i up to t, the first of them apart
-  pub slice_first : (i t : ℕ) → i < t → t ≤ length C → slice i t C ≡ get_or C i 0 ∷ slice (i + 1) t C
-  slice_first i t h l = slice-cons i t C 0 h l ∙ ap (λ (j : ℕ). get_or C i 0 ∷ slice j t C) (sym (add-one i))
+  pub first_left : (i : ℕ) → i < length C → drop i C ≡ get_or C i 0 ∷ drop (i + 1) C
+  first_left i h = drop-cons C i 0 h ∙ ap (λ (j : ℕ). get_or C i 0 ∷ drop j C) (sym (add-one i))
 
-  -- the first edge from `from` on is the first one from i on
-  pub record Before (from to i : ℕ) : Type 0 where
-    pub until : slice from i C ++ until_edge (slice i to C) ≡ until_edge (slice from to C)
-    pub after : past_edge (slice i to C) ≡ past_edge (slice from to C)
+  -- the first edge of all codes is the first one from i on
+  pub record Before (i : ℕ) : Type 0 where
+    pub until : take i C ++ until_edge (drop i C) ≡ until_edge C
+    pub after : past_edge (drop i C) ≡ past_edge C
 
-  pub begins : (from to : ℕ) → Before from to from
-  begins from to = record { until = ap (λ (l : List ℕ). l ++ until_edge (slice from to C)) (slice_empty from C); after = refl }
+  pub begins : Before 0
+  begins = record { until = refl; after = refl }
 
   -- r is just after the first edge, or where the codes end
-  abbrev pub Turns : ℕ → ℕ → ℕ → Type 0
-  Turns from to r = (slice from r C ≡ until_edge (slice from to C)) × (slice r to C ≡ past_edge (slice from to C))
+  pub record Turns (r : ℕ) : Type 0 where
+    pub until : take r C ≡ until_edge C
+    pub past : drop r C ≡ past_edge C
 
-  pub ends : {from to i : ℕ} → Before from to i → i ≡ to → Turns from to to
-  ends {from} {to} b e = (
-    sym (append-nil (slice from to C)) ∙ ap (λ (l : List ℕ). slice from to C ++ l) (sym until_none ∙ ap until_edge (sym none)) ∙ last.until,
-    none ∙ sym past_none ∙ ap past_edge (sym none) ∙ last.after,
-  )
+  pub ends : {i : ℕ} → Before i → length C ≤ i → Turns (length C)
+  ends {i} b h = record {
+    until = take_all (length C) C (omega arith) ∙ sym (take_all i C h) ∙ sym (append-nil (take i C))
+        ∙ ap (λ (l : List ℕ). take i C ++ l) (sym until_none ∙ ap until_edge (sym none)) ∙ b.until;
+    past = drop_all (length C) C (omega arith) ∙ sym past_none ∙ ap past_edge (sym none) ∙ b.after;
+  }
     where
-      last : Before from to to
-      last = subst (Before from to) e b
+      none : drop i C ≡ []
+      none = drop_all i C h
 
-      none : slice to to C ≡ []
-      none = slice_empty to C
+  module _ {i : ℕ} (b : Before i) (there : i < length C) where
+    pub found : get_or C i 0 ≤ 31 → Turns (i + 1)
+    found l = record {
+      until = one_more i there
+          ∙ ap (λ (r : List ℕ). take i C ++ r) (sym (until_edge_lem (get_or C i 0) (drop (i + 1) C) l) ∙ ap until_edge (sym (first_left i there))) ∙ b.until;
+      past = sym (past_edge_lem (get_or C i 0) (drop (i + 1) C) l) ∙ ap past_edge (sym (first_left i there)) ∙ b.after;
+    }
 
-  module _ {from to i : ℕ} (b : Before from to i) where
-    module _ (from-i : from ≤ i) (i-to : i < to) (there : to ≤ length C) where
-      first : slice i to C ≡ get_or C i 0 ∷ slice (i + 1) to C
-      first = slice_first i to i-to there
-
-      one_more : slice from (i + 1) C ≡ slice from i C ++ (get_or C i 0 ∷ [])
-      one_more = slice_next from i from-i (omega arith)
-
-      pub found : get_or C i 0 ≤ 31 → Turns from to (i + 1)
-      found l = (
-        one_more ∙ ap (λ (r : List ℕ). slice from i C ++ r) (sym (until_edge_lem (get_or C i 0) (slice (i + 1) to C) l) ∙ ap until_edge (sym first)) ∙ b.until,
-        sym (past_edge_lem (get_or C i 0) (slice (i + 1) to C) l) ∙ ap past_edge (sym first) ∙ b.after,
-      )
-
-      pub goes_on : 31 < get_or C i 0 → Before from to (i + 1)
-      goes_on l = record {
-        until = ap (λ (r : List ℕ). r ++ until_edge (slice (i + 1) to C)) one_more
-            ∙ append_assoc (slice from i C) (get_or C i 0 ∷ []) (until_edge (slice (i + 1) to C))
-            ∙ ap (λ (r : List ℕ). slice from i C ++ r) (sym (until_delay (get_or C i 0) (slice (i + 1) to C) l) ∙ ap until_edge (sym first)) ∙ b.until;
-        after = sym (past_delay (get_or C i 0) (slice (i + 1) to C) l) ∙ ap past_edge (sym first) ∙ b.after;
-      }
+    pub goes_on : 31 < get_or C i 0 → Before (i + 1)
+    goes_on l = record {
+      until = ap (λ (r : List ℕ). r ++ until_edge (drop (i + 1) C)) (one_more i there)
+          ∙ append_assoc (take i C) (get_or C i 0 ∷ []) (until_edge (drop (i + 1) C))
+          ∙ ap (λ (r : List ℕ). take i C ++ r) (sym (until_delay (get_or C i 0) (drop (i + 1) C) l) ∙ ap until_edge (sym (first_left i there))) ∙ b.until;
+      after = sym (past_delay (get_or C i 0) (drop (i + 1) C) l) ∙ ap past_edge (sym (first_left i there)) ∙ b.after;
+    }

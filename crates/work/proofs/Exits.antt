@@ -15,9 +15,8 @@ use Rattle.schedules.specs.Turning.{stem_pairs, cycle_pairs}
 use Rattle.contract.specs.Accepted.{Accepted}
 use Rattle.contract.specs.Answers.{PlanAnswers}
 use Rattle.contract.specs.Plan.{Answer, Buffers, LongEnough, Judged, too_short, faulty, explored, step_on, start_of, Planned}
-use Rattle.work.specs.Work.{refused_work, PairBuffers, RoomForPairs, holding, zero_pairs, WorkJudged, no_room, no_plan, strict, all_closed, WorkAccepted, WorkPassed, Worked}
+use Rattle.work.specs.Work.{WorkAnswer, refused_work, PairBuffers, RoomForPairs, holding, zero_pairs, WorkJudged, no_room, no_plan, strict, all_closed, WorkAccepted, WorkPassed, Worked}
 use Rattle.work.specs.PrivatePromises.{with_pairs, LassoWritten}
-use Rattle.work.specs.declared.Lengths.{Lengths}
 use Rattle.work.proofs.StoredLaws.{over_zeros}
 use Rattle.work.proofs.PlanRuns.{lasso_runs}
 
@@ -27,8 +26,8 @@ answers_all l (too_short e h) c k = absurd (h l)
 answers_all l (faulty e h x) c k = faulty e k x
 answers_all l (explored h x v) c k = explored k x v
 
-number_of : {a : Lengths} {r : ℕ} → a ≡ refused_work r → r ≡ a.refusal
-number_of e = sym (ap (λ (x : Lengths). x.refusal) e)
+number_of : {a : WorkAnswer} {r : ℕ} → a ≡ refused_work r → r ≡ a.refusal
+number_of e = sym (ap (λ (x : WorkAnswer). x.refusal) e)
 
 -- what is stored in buffers that are cleared, they hold
 held : (before : PairBuffers) {cleared after : PairBuffers} → cleared ≡ zero_pairs before → RoomForPairs before → (ps : List Pair) → length ps ≤ 2049
@@ -45,7 +44,7 @@ zeros_room {b} {before} e r = record {
   edges = omega (arith, ap (λ (x : PairBuffers). length x.edges) e, length-replicate {A = ℕ} (length before.edges) 0, r.edges);
 }
 
-module _ {bytes : List ℕ} {before : PairBuffers} {a : Lengths} where
+module _ {bytes : List ℕ} {before : PairBuffers} {a : WorkAnswer} where
   refused_with : (r : ℕ) {after : PairBuffers} → a ≡ refused_work r → 0 < r → WorkJudged bytes before r
       → (¬ WorkPassed bytes before → after ≡ before) → (WorkPassed bytes before → after ≡ zero_pairs before) → Worked bytes before after a
   refused_with r e some j kept cleared = record {

@@ -1,18 +1,17 @@
--- A lasso written in three parts: the stem with the cycle up to its first edge, the cycle after it, and the cycle up to its first edge again.
+-- A lasso written in four parts: the stem, the cycle up to its first edge, the cycle after it, and the cycle up to its first edge again.
 use mathlib.Core.Path.{◌≡◌, refl, sym, ap, ap₂, ◌∙◌, subst}
 use mathlib.Core.List.{List, ◌++◌, map, map-append}
 use Prim.Native.Nat.{ℕ, ◌+◌, ◌-◌, ◌≤◌}
 use native.Mathlib.Omega.{arith}
-use lib.ListN.{length, take, length-map, length-append, take-append-drop}
-use lib.Seq.{sets, length-sets, slice, take-take, length-take-le, length-slice}
-use Rattle.schedules.specs.Pairs.{Pair, waits, edge_numbers, pairs_from, pairs_of}
+use lib.ListN.{length, take, drop, length-map, length-append, length-drop}
+use lib.Seq.{sets, length-sets, take_all, length-take-le}
+use Rattle.schedules.specs.Pairs.{Pair, waits, edge_numbers, pairs_from}
 use Rattle.schedules.specs.Turning.{until_edge, past_edge, stem_pairs, cycle_pairs}
 use Rattle.schedules.specs.WalkTerms.{rest_from}
 use Rattle.schedules.proofs.PairLaws.{pairs_append, rest_short}
 use Rattle.schedules.proofs.PlanSizes.{lasso_few}
-use Rattle.work.specs.Work.{PairBuffers, RoomForPairs}
+use Rattle.work.specs.Work.{WorkAnswer, PairBuffers, RoomForPairs, lent_pairs}
 use Rattle.work.specs.PrivatePromises.{with_pairs, RoomFrom, PairsWritten, LassoWritten}
-use Rattle.work.specs.declared.pairs.Progress.{Progress}
 use Rattle.work.proofs.StoredLaws.{stored_then}
 use Rattle.work.proofs.EdgeSearch.{Turns}
 
@@ -23,8 +22,8 @@ record Wrote (b b' : PairBuffers) (k : ℕ) (ps : List Pair) (k' : ℕ) : Type 0
   is : b' ≡ with_pairs k ps b
   count : k' ≡ k + length ps
 
-wrote : {b b' : PairBuffers} {k w : ℕ} {codes : List ℕ} {r : Progress} → PairsWritten b b' k w codes r → Wrote b b' k (pairs_from w codes) r.count
-wrote h = record { is = h.is; count = h.count }
+wrote : {b b' : PairBuffers} {k w k' w' : ℕ} {codes : List ℕ} → PairsWritten b b' k w codes k' w' → Wrote b b' k (pairs_from w codes) k'
+wrote h = record { is = h.is; count = h.counted }
 
 module _ {b b' : PairBuffers} {k k' : ℕ} {ps : List Pair} (h : Wrote b b' k ps k') where
   waits_stay : length b'.waits ≡ length b.waits
@@ -44,86 +43,93 @@ module _ {b b' : PairBuffers} {k k' : ℕ} {ps : List Pair} (h : Wrote b b' k ps
       both f l = ap (λ (n : ℕ). sets (sets l k (map f ps)) (k + n) (map f qs)) (sym (length-map ps f))
           ∙ stored_then l k (map f ps) (map f qs) ∙ ap (sets l k) (sym (map-append f ps qs))
 
--- ---- the three parts, of a stem of s codes and a cycle of m that is turned at the place t
+-- the codes from the place t on, as they are cut
+abbrev pub rest : List ℕ → ℕ → List ℕ
+rest Y t = take (length Y - t) (drop t Y)
 
-pub record Parted (C : List ℕ) (s m t : ℕ) : Type 0 where
-  pub few : s + m ≤ 2048
-  pub there : s + m ≤ length C
-  pub low : s ≤ t
-  pub high : t ≤ s + m
-  pub turns : Turns C s (s + m) t
+rest_is : (Y : List ℕ) (t : ℕ) → rest Y t ≡ drop t Y
+rest_is Y t = take_all (length Y - t) (drop t Y) (omega (arith, length-drop t Y))
 
-module _ {C : List ℕ} {s m t : ℕ} (p : Parted C s m t) where
-  abbrev stem : List ℕ
-  stem = take s C
+-- ---- the four parts, of a stem S and a cycle Y that is turned at the place t: the stem, what is before the turn, what is after it, and what is
+-- before it again
+module _ (S Y : List ℕ) {t : ℕ} (few : length S + length Y ≤ 2048) (high : t ≤ length Y) (turn : Turns Y t) where
+  stem_is : pairs_from 0 S ++ pairs_from (rest_from 0 S) (take t Y) ≡ stem_pairs S Y
+  stem_is = ap (λ (u : List ℕ). pairs_from 0 S ++ pairs_from (rest_from 0 S) u) turn.until ∙ sym (pairs_append 0 S (until_edge Y))
 
-  abbrev cycle : List ℕ
-  cycle = slice s (s + m) C
+  cycle_is : pairs_from 0 (rest Y t) ++ pairs_from (rest_from 0 (rest Y t)) (take t Y) ≡ cycle_pairs Y
+  cycle_is = ap₂ (λ (p u : List ℕ). pairs_from 0 p ++ pairs_from (rest_from 0 p) u) (rest_is Y t ∙ turn.past) turn.until ∙ sym (pairs_append 0 (past_edge Y) (until_edge Y))
 
-  stem_length : length stem ≡ s
-  stem_length = length-take-le s C (omega (arith, p.there))
+  stem_count : length (pairs_from 0 S) + length (pairs_from (rest_from 0 S) (take t Y)) ≡ length (stem_pairs S Y)
+  stem_count = sym (length-append (pairs_from 0 S) (pairs_from (rest_from 0 S) (take t Y))) ∙ ap length stem_is
 
-  cycle_length : length cycle ≡ m
-  cycle_length = length-slice s (s + m) C p.there ∙ omega arith
+  cycle_count : length (pairs_from 0 (rest Y t)) + length (pairs_from (rest_from 0 (rest Y t)) (take t Y)) ≡ length (cycle_pairs Y)
+  cycle_count = sym (length-append (pairs_from 0 (rest Y t)) (pairs_from (rest_from 0 (rest Y t)) (take t Y))) ∙ ap length cycle_is
 
-  first_pairs : pairs_from 0 (slice 0 t C) ≡ stem_pairs stem cycle
-  first_pairs = ap pairs_of (sym (take-append-drop s (take t C)) ∙ ap₂ ◌++◌ (take-take s t C p.low) p.turns.0)
+  until_short : length (take t Y) ≡ t
+  until_short = length-take-le t Y high
 
-  -- those after the stem are in two parts
-  other_pairs : pairs_from 0 (slice t (s + m) C) ++ pairs_from (rest_from 0 (slice t (s + m) C)) (slice s t C) ≡ cycle_pairs cycle
-  other_pairs = ap₂ (λ (f u : List ℕ). pairs_from 0 f ++ pairs_from (rest_from 0 f) u) p.turns.1 p.turns.0 ∙ sym (pairs_append 0 (past_edge cycle) (until_edge cycle))
+  past_short : length (rest Y t) + t ≡ length Y
+  past_short = omega (arith, ap length (rest_is Y t), length-drop t Y)
 
-  other_count : length (pairs_from 0 (slice t (s + m) C)) + length (pairs_from (rest_from 0 (slice t (s + m) C)) (slice s t C)) ≡ length (cycle_pairs cycle)
-  other_count = sym (length-append (pairs_from 0 (slice t (s + m) C)) (pairs_from (rest_from 0 (slice t (s + m) C)) (slice s t C))) ∙ ap length other_pairs
-
-  all_few : length (stem_pairs stem cycle) + length (cycle_pairs cycle) ≤ 2049
-  all_few = omega (arith, lasso_few stem cycle, stem_length, cycle_length, p.few)
+  all_few : length (stem_pairs S Y) + length (cycle_pairs Y) ≤ 2049
+  all_few = omega (arith, lasso_few S Y)
 
   module _ {b : PairBuffers} (room : RoomForPairs b) where
-    pub first_room : RoomFrom b 0 0 (slice 0 t C)
-    first_room = record {
-      waits = omega (arith, ap length first_pairs, all_few, room.waits);
-      edges = omega (arith, ap length first_pairs, all_few, room.edges);
-      fits = omega (arith, length-slice 0 t C (omega (arith, p.high, p.there)), p.high, p.few);
-    }
+    pub first_room : RoomFrom b 0 0 S
+    first_room = record { waits = omega (arith, stem_count, all_few, room.waits); edges = omega (arith, stem_count, all_few, room.edges); fits = omega arith }
 
-    module _ {b₁ : PairBuffers} {r₁ : Progress} (w₁ : PairsWritten b b₁ 0 0 (slice 0 t C) r₁) where
-      first : Wrote b b₁ 0 (stem_pairs stem cycle) r₁.count
-      first = subst (λ (ps : List Pair). Wrote b b₁ 0 ps r₁.count) first_pairs (wrote w₁)
+    module _ {b₁ : PairBuffers} {k₁ v₁ : ℕ} (w₁ : PairsWritten b b₁ 0 0 S k₁ v₁) where
+      first : Wrote b b₁ 0 (pairs_from 0 S) k₁
+      first = wrote w₁
 
-      pub second_room : RoomFrom b₁ r₁.count 0 (slice t (s + m) C)
-      second_room = record {
-        waits = omega (arith, first.count, other_count, all_few, room.waits, waits_stay first);
-        edges = omega (arith, first.count, other_count, all_few, room.edges, edges_stay first);
-        fits = omega (arith, length-slice t (s + m) C p.there, p.few);
-      }
+      pub second_room : RoomFrom b₁ k₁ v₁ (take t Y)
+      second_room = subst (λ (v : ℕ). RoomFrom b₁ k₁ v (take t Y)) (sym w₁.rest) (record {
+        waits = omega (arith, first.count, stem_count, all_few, room.waits, waits_stay first);
+        edges = omega (arith, first.count, stem_count, all_few, room.edges, edges_stay first);
+        fits = omega (arith, rest_short 0 S, until_short);
+      })
 
-      module _ {b₂ : PairBuffers} {r₂ : Progress} (w₂ : PairsWritten b₁ b₂ r₁.count 0 (slice t (s + m) C) r₂) where
-        second : Wrote b₁ b₂ r₁.count (pairs_from 0 (slice t (s + m) C)) r₂.count
-        second = wrote w₂
+      module _ {b₂ : PairBuffers} {k₂ v₂ : ℕ} (w₂ : PairsWritten b₁ b₂ k₁ v₁ (take t Y) k₂ v₂) where
+        stem : Wrote b b₂ 0 (stem_pairs S Y) k₂
+        stem = subst (λ (ps : List Pair). Wrote b b₂ 0 ps k₂) stem_is
+            (wrote_then first (subst (λ (v : ℕ). Wrote b₁ b₂ k₁ (pairs_from v (take t Y)) k₂) w₁.rest (wrote w₂)))
 
-        third_count : length (pairs_from r₂.wait (slice s t C)) ≡ length (pairs_from (rest_from 0 (slice t (s + m) C)) (slice s t C))
-        third_count = ap (λ (w : ℕ). length (pairs_from w (slice s t C))) w₂.wait
-
-        pub third_room : RoomFrom b₂ r₂.count r₂.wait (slice s t C)
+        pub third_room : RoomFrom b₂ k₂ 0 (rest Y t)
         third_room = record {
-          waits = omega (arith, first.count, second.count, third_count, other_count, all_few, room.waits, waits_stay first, waits_stay second);
-          edges = omega (arith, first.count, second.count, third_count, other_count, all_few, room.edges, edges_stay first, edges_stay second);
-          fits = omega (arith, w₂.wait, rest_short 0 (slice t (s + m) C), length-slice t (s + m) C p.there, p.few, length-slice s t C (omega (arith, p.high, p.there)), p.low, p.high);
+          waits = omega (arith, stem.count, cycle_count, all_few, room.waits, waits_stay stem);
+          edges = omega (arith, stem.count, cycle_count, all_few, room.edges, edges_stay stem);
+          fits = omega (arith, past_short);
         }
 
-        module _ {b₃ : PairBuffers} {r₃ : Progress} (w₃ : PairsWritten b₂ b₃ r₂.count r₂.wait (slice s t C) r₃) where
-          whole : Wrote b b₃ 0 (stem_pairs stem cycle ++ cycle_pairs cycle) r₃.count
-          whole = wrote_then first (subst (λ (ps : List Pair). Wrote b₁ b₃ r₁.count ps r₃.count) turned (wrote_then second (wrote w₃)))
-            where
-              turned : pairs_from 0 (slice t (s + m) C) ++ pairs_from r₂.wait (slice s t C) ≡ cycle_pairs cycle
-              turned = ap (λ (w : ℕ). pairs_from 0 (slice t (s + m) C) ++ pairs_from w (slice s t C)) w₂.wait ∙ other_pairs
+        module _ {b₃ : PairBuffers} {k₃ v₃ : ℕ} (w₃ : PairsWritten b₂ b₃ k₂ 0 (rest Y t) k₃ v₃) where
+          third : Wrote b₂ b₃ k₂ (pairs_from 0 (rest Y t)) k₃
+          third = wrote w₃
 
-          pub lasso_written : LassoWritten b b₃ stem cycle (record { refusal = 0; stem = r₁.count; cycle = r₃.count - r₁.count })
-          lasso_written = record {
-            is = whole.is;
-            accepted = refl;
-            stem_length = omega (arith, first.count);
-            cycle_length = omega (arith, first.count, whole.count, length-append (stem_pairs stem cycle) (cycle_pairs cycle));
-            few = all_few;
-          }
+          pub fourth_room : RoomFrom b₃ k₃ v₃ (take t Y)
+          fourth_room = subst (λ (v : ℕ). RoomFrom b₃ k₃ v (take t Y)) (sym w₃.rest) (record {
+            waits = omega (arith, stem.count, third.count, cycle_count, all_few, room.waits, waits_stay stem, waits_stay third);
+            edges = omega (arith, stem.count, third.count, cycle_count, all_few, room.edges, edges_stay stem, edges_stay third);
+            fits = omega (arith, rest_short 0 (rest Y t), past_short, until_short);
+          })
+
+          module _ {b₄ : PairBuffers} {k₄ v₄ : ℕ} (w₄ : PairsWritten b₃ b₄ k₃ v₃ (take t Y) k₄ v₄) where
+            cycle : Wrote b₂ b₄ k₂ (cycle_pairs Y) k₄
+            cycle = subst (λ (ps : List Pair). Wrote b₂ b₄ k₂ ps k₄) cycle_is
+                (wrote_then third (subst (λ (v : ℕ). Wrote b₃ b₄ k₃ (pairs_from v (take t Y)) k₄) w₃.rest (wrote w₄)))
+
+            whole : Wrote b b₄ 0 (stem_pairs S Y ++ cycle_pairs Y) k₄
+            whole = wrote_then stem cycle
+
+            -- the lists that were lent hold it
+            pub lasso_written : {W E : List ℕ} → W ≡ b₄.waits → E ≡ b₄.edges → LassoWritten b (lent_pairs W E) S Y (record { refusal = 0; stem = k₂; cycle = k₄ - k₂ })
+            lasso_written w e = rw (w, e) (record {
+              is = whole.is;
+              accepted = refl;
+              stem_length = omega (arith, stem.count);
+              cycle_length = omega (arith, stem.count, cycle.count);
+              few = all_few;
+            })
+
+-- the same of a stem and a cycle by other names
+pub written_as : {b b' : PairBuffers} {S S' Y Y' : List ℕ} {r : WorkAnswer} → S ≡ S' → Y ≡ Y' → LassoWritten b b' S Y r → LassoWritten b b' S' Y' r
+written_as {b} {b'} {S} {S'} {Y} {Y'} {r} p q w = subst (λ (y : List ℕ). LassoWritten b b' S' y r) q (subst (λ (s : List ℕ). LassoWritten b b' s Y r) p w)

@@ -8,3 +8,4 @@ pub mod SmallestRun
 pub mod Exits
 pub mod JustWhen
 pub mod BenchPairs
+pub mod EachLaws

@@ -8,8 +8,8 @@ use native.Mathlib.Nat.{add-zero}
 use native.Mathlib.Numerals.{add-one}
 use native.Mathlib.Omega.{arith}
 use borrow.Author.Tests.{eq-eqb, ne_eqb}
-use lib.ListN.{length, get_or, set, length-set}
-use lib.Seq.{slice, slice_empty}
+use lib.ListN.{length, get_or, set, drop, length-set}
+use Rattle.std.proofs.lemmas.List.{drop_all}
 use Rattle.automaton.specs.Times.{units_of}
 use Rattle.schedules.specs.Pairs.{Pair, pairs_from}
 use Rattle.schedules.specs.WalkTerms.{rest_from}
@@ -17,7 +17,7 @@ use Rattle.schedules.proofs.CodeLaws.{pairs_none, pairs_edge, pairs_delay, rest_
 use Rattle.schedules.proofs.PairLaws.{units_small}
 use Rattle.work.specs.Work.{PairBuffers, lent_pairs}
 use Rattle.work.specs.PrivatePromises.{with_pairs, RoomFrom, PairsWritten}
-use Rattle.work.proofs.EdgeSearch.{slice_first}
+use Rattle.work.proofs.EdgeSearch.{first_left}
 
 -- the pairs of all codes were to be written from the place k₀ on; k places are passed, w units wait, and some codes are left
 pub record Going (before : PairBuffers) (k₀ w₀ : ℕ) (all : List ℕ) (reached : PairBuffers) (k w : ℕ) (left : List ℕ) : Type 0 where
@@ -33,9 +33,9 @@ module _ {before : PairBuffers} {k₀ w₀ : ℕ} {all : List ℕ} where
   going_on = record { same = refl; count = refl; rest = refl; waits = refl; edges = refl; fits = omega arith }
 
   -- the code at place i comes next
-  pub at_place : (C : List ℕ) (i t : ℕ) {reached : PairBuffers} {k w : ℕ} → i < t → t ≤ length C → Going before k₀ w₀ all reached k w (slice i t C)
-      → Going before k₀ w₀ all reached k w (get_or C i 0 ∷ slice (i + 1) t C)
-  at_place C i t {reached} {k} {w} h l = subst (Going before k₀ w₀ all reached k w) (slice_first C i t h l)
+  pub at_place : (C : List ℕ) (i : ℕ) {reached : PairBuffers} {k w : ℕ} → i < length C → Going before k₀ w₀ all reached k w (drop i C)
+      → Going before k₀ w₀ all reached k w (get_or C i 0 ∷ drop (i + 1) C)
+  at_place C i {reached} {k} {w} h = subst (Going before k₀ w₀ all reached k w) (first_left C i h)
 
   module _ {W E : List ℕ} {k w code : ℕ} {left : List ℕ} (g : Going before k₀ w₀ all (lent_pairs W E) k w (code ∷ left)) where
     -- an edge comes: there is a place for its pair, which is written
@@ -80,13 +80,13 @@ module _ {before : PairBuffers} {k₀ w₀ : ℕ} {all : List ℕ} where
         (ap (λ (b : Bool). w + cond b 1 0) (ne_eqb code 32 n) ∙ add-zero w) (delay_comes l)
 
   -- no code is left
-  pub none_left : (C : List ℕ) (i t : ℕ) {reached : PairBuffers} {k w : ℕ} → i ≡ t → Going before k₀ w₀ all reached k w (slice i t C)
-      → PairsWritten before reached k₀ w₀ all (record { count = k; wait = w })
-  none_left C i t {reached} {k} {w} e h = record {
+  pub none_left : (C : List ℕ) (i : ℕ) {reached : PairBuffers} {k w : ℕ} → length C ≤ i → Going before k₀ w₀ all reached k w (drop i C)
+      → PairsWritten before reached k₀ w₀ all k w
+  none_left C i {reached} {k} {w} e h = record {
     is = ap (λ (ps : List Pair). with_pairs k ps reached) (sym (pairs_none w)) ∙ g.same;
-    count = omega (arith, g.count, ap length (pairs_none w));
-    wait = sym (rest_none w) ∙ g.rest;
+    counted = omega (arith, g.count, ap length (pairs_none w));
+    rest = sym (rest_none w) ∙ g.rest;
   }
     where
       g : Going before k₀ w₀ all reached k w []
-      g = subst (Going before k₀ w₀ all reached k w) (ap (λ (j : ℕ). slice j t C) e ∙ slice_empty t C) h
+      g = subst (Going before k₀ w₀ all reached k w) (drop_all i C e) h

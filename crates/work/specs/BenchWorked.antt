@@ -1,10 +1,9 @@
 -- "Bench gives stem (1, 0), cycle (1, 0)": a pair each, both of a unit and edge 0, and 0 after them. It is proved of whatever meets the contract
 -- (proofs/BenchPairs.antt).
 use Rattle.std.specs.Prelude.{◌≡◌, ◌∷◌, ◌-◌, length, replicate}
-use Rattle.work.specs.Work.{PairBuffers}
-use Rattle.work.specs.declared.Lengths.{Lengths}
+use Rattle.work.specs.Work.{WorkAnswer, PairBuffers}
 
-pub record BenchWorked (before after : PairBuffers) (a : Lengths) : Type 0 where
+pub record BenchWorked (before after : PairBuffers) (a : WorkAnswer) : Type 0 where
   pub refusal : a.refusal ≡ 0
   pub stem : a.stem ≡ 1
   pub cycle : a.cycle ≡ 1

@@ -1,4 +1,5 @@
 pub mod Work
 pub mod Conditions
 pub mod BenchWorked
+pub mod Writer
 pub mod PrivatePromises

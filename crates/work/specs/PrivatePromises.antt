@@ -1,28 +1,25 @@
 -- What the private functions are handed, and what they promise each other. Only private functions go by this file.
-use Rattle.std.specs.Prelude.{◌≡◌, Bool, ◌&&◌, List, ◌++◌, ℕ, ◌+◌, ◌%◌, ◌≤◌, ◌<◌, eqb, length, get_or}
+use Rattle.std.specs.Prelude.{◌≡◌, Bool, ◌&&◌, List, ◌++◌, ℕ, ◌+◌, ◌%◌, ◌≤◌, ◌<◌, eqb, min, length, get_or}
+use Rattle.std.specs.List.{list_all}
 use Rattle.std.proofs.lemmas.List.Edits.{sets}
 use Rattle.sheet.specs.Questions.{each}
-use Rattle.sheet.specs.Decoded.{blank_location, blank_edge}
 use Rattle.sheet.specs.declared.Location.{Location}
 use Rattle.sheet.specs.declared.Edge.{Edge}
 use Rattle.schedules.specs.Pairs.{Pair, waits, edge_numbers, pairs_from}
 use Rattle.schedules.specs.Turning.{stem_pairs, cycle_pairs}
 use Rattle.schedules.specs.WalkTerms.{rest_from}
-use Rattle.work.specs.Work.{PairBuffers, RoomForPairs, zero_pairs}
-use Rattle.work.specs.declared.Lengths.{Lengths}
-use Rattle.work.specs.declared.pairs.Progress.{Progress}
+use Rattle.work.specs.Work.{WorkAnswer, PairBuffers, RoomForPairs, zero_pairs}
 
--- the bytes of the first clocks all have this parity: 0 is even, 1 is odd
+-- the bytes of the first clocks, at most the four that there are, all have this parity: 0 is even, 1 is odd
 abbrev pub all_of_parity : List ℕ → ℕ → ℕ → Bool
-all_of_parity bytes clocks parity = each clocks (λ j. eqb (get_or bytes j 0 % 2) parity)
+all_of_parity bytes clocks parity = each (min clocks 4) (λ j. eqb (get_or bytes j 0 % 2) parity)
 
--- the bounds of the first locations are odd; the lower guards of the first edges are even, and the upper ones odd
-abbrev pub bounds_odd : List Location → ℕ → ℕ → Bool
-bounds_odd locations count clocks = each count (λ l. all_of_parity (get_or locations l blank_location).upper clocks 1)
+-- the bounds of locations are odd; the lower guards of edges are even, and the upper ones odd
+abbrev pub bounds_odd : List Location → ℕ → Bool
+bounds_odd locations clocks = list_all (λ (l : Location). all_of_parity l.upper clocks 1) locations
 
-abbrev pub guards_even_odd : List Edge → ℕ → ℕ → Bool
-guards_even_odd edges count clocks =
-    each count (λ e. all_of_parity (get_or edges e blank_edge).lower clocks 0 && all_of_parity (get_or edges e blank_edge).upper clocks 1)
+abbrev pub guards_even_odd : List Edge → ℕ → Bool
+guards_even_odd edges clocks = list_all (λ (e : Edge). all_of_parity e.lower clocks 0 && all_of_parity e.upper clocks 1) edges
 
 -- the buffers as they were before they were cleared
 pub record ClearedFrom (b : PairBuffers) : Type 0 where
@@ -41,13 +38,13 @@ pub record RoomFrom (b : PairBuffers) (k w : ℕ) (codes : List ℕ) : Type 0 wh
   pub fits : w + length codes < 65536
 
 -- the pairs of some codes are written from the place k on
-pub record PairsWritten (before after : PairBuffers) (k w : ℕ) (codes : List ℕ) (r : Progress) : Type 0 where
+pub record PairsWritten (before after : PairBuffers) (k w : ℕ) (codes : List ℕ) (count wait : ℕ) : Type 0 where
   pub is : after ≡ with_pairs k (pairs_from w codes) before
-  pub count : r.count ≡ k + length (pairs_from w codes)
-  pub wait : r.wait ≡ rest_from w codes
+  pub counted : count ≡ k + length (pairs_from w codes)
+  pub rest : wait ≡ rest_from w codes
 
 -- the pairs of a lasso, given by the codes of its stem and of its cycle, are written from the first entry on
-pub record LassoWritten (before after : PairBuffers) (stem cycle : List ℕ) (r : Lengths) : Type 0 where
+pub record LassoWritten (before after : PairBuffers) (stem cycle : List ℕ) (r : WorkAnswer) : Type 0 where
   pub is : after ≡ with_pairs 0 (stem_pairs stem cycle ++ cycle_pairs cycle) before
   pub accepted : r.refusal ≡ 0
   pub stem_length : r.stem ≡ length (stem_pairs stem cycle)

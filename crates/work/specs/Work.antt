@@ -1,6 +1,8 @@
 -- The contract of `work`: what it answers and leaves in the two buffers, for every byte string and all buffers.
-use Rattle.std.specs.Prelude.{◌≡◌, true, false, List, ◌++◌, ℕ, ◌+◌, ◌-◌, ◌≤◌, ◌<◌, ℤ, pos, ◌*ℤ◌, length, take, replicate}
+use Rattle.std.specs.Prelude.{◌≡◌, Result, Ok, Err, true, false, List, ◌++◌, ℕ, ◌+◌, ◌-◌, ◌≤◌, ◌<◌, ℤ, pos, ◌*ℤ◌, length, take, replicate}
 use Rattle.std.proofs.Math.Seq.{slice}
+use Rattle.refusals.specs.Numbers.{number_of}
+use Rattle.refusals.specs.declared.Refusal.{Refusal}
 use Rattle.automaton.specs.Loops.{NoLoopBelow}
 use Rattle.sheet.specs.Questions.{check_of}
 use Rattle.nodes.specs.Meaning.{meaning}
@@ -13,9 +15,23 @@ use Rattle.contract.specs.Plan.{step_on, start_of}
 use Rattle.contract.specs.Answers.{PlanAnswers, AcceptedAs, RefusedAs}
 use Rattle.work.specs.declared.Lengths.{Lengths}
 
+-- the number of the refusal, or 0, and how many pairs the stem and the cycle have
+pub record WorkAnswer : Type 0 where
+  pub refusal : ℕ
+  pub stem : ℕ
+  pub cycle : ℕ
+
 -- "the result has both lengths, 0 when refused"
-abbrev pub refused_work : ℕ → Lengths
+abbrev pub refused_work : ℕ → WorkAnswer
 refused_work r = record { refusal = r; stem = 0; cycle = 0 }
+
+abbrev pub given_work : ℕ → ℕ → WorkAnswer
+given_work stem cycle = record { refusal = 0; stem = stem; cycle = cycle }
+
+-- both lengths, or the number of the refusal and zeros beside it
+abbrev pub work_answer : Result Lengths Refusal → WorkAnswer
+work_answer (Ok l) = given_work l.stem l.cycle
+work_answer (Err r) = refused_work (number_of r)
 
 -- "two buffers, .. one for the waits and one for the edge numbers"
 pub record PairBuffers : Type 0 where
@@ -49,7 +65,7 @@ pub data WorkJudged (bytes : List ℕ) (b : PairBuffers) (refusal : ℕ) : Type 
   all_closed : refusal ≡ 0 → RoomForPairs b → PlanAnswers bytes 0 → is_closed (meaning bytes) ≡ true → WorkJudged bytes b refusal
 
 -- where a work plan is given
-pub record WorkAccepted (bytes : List ℕ) (before after : PairBuffers) (a : Lengths) : Type 0 where
+pub record WorkAccepted (bytes : List ℕ) (before after : PairBuffers) (a : WorkAnswer) : Type 0 where
   -- the ratio of the sheet, and a lasso that has it, as a plan may answer it
   pub p : ℤ
   pub q : ℕ
@@ -85,7 +101,7 @@ abbrev pub WorkPassed : List ℕ → PairBuffers → Type 0
 WorkPassed bytes b = RoomForPairs b × (check_of bytes ≡ 0)
 
 -- the contract, with the buffers before and after
-pub record Worked (bytes : List ℕ) (before after : PairBuffers) (a : Lengths) : Type 0 where
+pub record Worked (bytes : List ℕ) (before after : PairBuffers) (a : WorkAnswer) : Type 0 where
   pub judged : WorkJudged bytes before a.refusal
   pub numbers : 0 < a.refusal → a ≡ refused_work a.refusal
   -- "All refusals set these two buffers to 0, except 1 to 11 and 17, which do not write": those are what a short buffer or the check refuses

@@ -1,5 +1,5 @@
 // Question 18: whether a decoded sheet has no strict bound and no strict guard.
-ghost use Rattle.std.specs.Prelude.{◌≡◌, ◌≤◌};
+ghost use Rattle.std.specs.Prelude.{◌≡◌};
 ghost use Rattle.nodes.specs.Decoded.{decoded_meaning};
 ghost use Rattle.explore.specs.Explorable.{CountsInRange};
 ghost use Rattle.schedules.specs.Closed.{is_closed};
@@ -9,71 +9,34 @@ use sheet::{Edge, Location, Sheet};
 
 // Whether the bytes of the first clocks are all even, of parity 0, or all odd, of parity 1.
 fn all_of_parity(bytes: [u8; 4], clocks: usize, parity: u8) -> bool
-    requires { clocks ≤ 4 }
     ensures { result ≡ all_of_parity bytes clocks parity }
 {
-    let all: bool = 'bytes: loop {
-        for j in 0..clocks {
-            if bytes[j] % 2 != parity {
-                break 'bytes false;
-            }
-        }
-        break 'bytes true;
-    };
-    all
+    bytes.iter().take(clocks).all(|byte| byte % 2 == parity)
 }
 
-// Whether the bounds of the first locations are all odd.
-fn bounds_closed(locations: [Location; 12], count: usize, clocks: usize) -> bool
-    requires few_records { count ≤ 12 }
-    requires few_clocks { clocks ≤ 4 }
-    ensures { result ≡ bounds_odd locations count clocks }
+// Whether the bounds of locations are all odd.
+fn bounds_closed(locations: &[Location], clocks: usize) -> bool
+    ensures { result ≡ bounds_odd locations.now clocks }
 {
-    let all: bool = 'records: loop {
-        for l in 0..count {
-            let location = locations[l];
-            let upper = location.upper;
-            if !all_of_parity(upper, clocks, 1) {
-                break 'records false;
-            }
-        }
-        break 'records true;
-    };
-    all
+    locations
+        .iter()
+        .all(|location| all_of_parity(location.upper, clocks, 1))
 }
 
-// Whether the lower guards of the first edges are all even and the upper ones odd. An absent lower one is 0, an absent upper one 255.
-fn guards_closed(edges: [Edge; 32], count: usize, clocks: usize) -> bool
-    requires few_records { count ≤ 32 }
-    requires few_clocks { clocks ≤ 4 }
-    ensures { result ≡ guards_even_odd edges count clocks }
+// Whether the lower guards of edges are all even and the upper ones odd. An absent lower one is 0, an absent upper one 255.
+fn guards_closed(edges: &[Edge], clocks: usize) -> bool
+    ensures { result ≡ guards_even_odd edges.now clocks }
 {
-    let all: bool = 'records: loop {
-        for e in 0..count {
-            let edge = edges[e];
-            let lower = edge.lower;
-            let upper = edge.upper;
-            if !all_of_parity(lower, clocks, 0) {
-                break 'records false;
-            }
-            if !all_of_parity(upper, clocks, 1) {
-                break 'records false;
-            }
-        }
-        break 'records true;
-    };
-    all
+    edges.iter().all(|edge| {
+        all_of_parity(edge.lower, clocks, 0) && all_of_parity(edge.upper, clocks, 1)
+    })
 }
 
 pub(crate) fn is_closed(read: Sheet) -> bool
     requires { CountsInRange read.edition read.locations read.clocks read.edges }
     ensures { result ≡ is_closed (decoded_meaning read) }
 {
-    let clocks = read.clocks as usize;
-    let locations = read.location;
-    if !bounds_closed(locations, read.locations as usize, clocks) {
-        return false;
-    }
-    let edges = read.edge;
-    guards_closed(edges, read.edges as usize, clocks)
+    let clocks = usize::from(read.clocks);
+    bounds_closed(&read.location[..usize::from(read.locations)], clocks)
+        && guards_closed(&read.edge[..usize::from(read.edges)], clocks)
 }

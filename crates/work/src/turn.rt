@@ -1,60 +1,58 @@
-// The lasso turned so that its cycle starts just after its first edge.
-ghost use Rattle.std.specs.Prelude.{◌≡◌, ◌+◌, ◌≤◌, length, take};
-ghost use Rattle.std.proofs.Math.Seq.{slice};
+// The lasso turned so that its cycle starts just after its first edge. `as` narrows where the number is proved to fit; try_from would give a Result
+// that never fails.
+ghost use Rattle.std.specs.Prelude.{◌≡◌, ◌+◌, ◌≤◌, length, take, drop};
 ghost use Rattle.schedules.specs.Turning.{until_edge, past_edge};
-ghost use Rattle.work.specs.Work.{RoomForPairs, lent_pairs};
+ghost use Rattle.work.specs.Work.{RoomForPairs, lent_pairs, given_work};
 ghost use Rattle.work.specs.PrivatePromises.{LassoWritten};
 
 use crate::Lengths;
+use crate::pairs::PairWriter;
 
-// The place just after the first edge of the codes from a place up to another, or where these end.
-fn past_edge(codes: &[u16], from: usize, to: usize) -> usize
-    requires order { from ≤ to }
-    requires in_codes { to ≤ length codes.now }
-    ensures from_on { from ≤ result }
-    ensures within { result ≤ to }
-    ensures until { slice from result codes.now ≡ until_edge (slice from to codes.now) }
-    ensures past { slice result to codes.now ≡ past_edge (slice from to codes.now) }
+// The place just after the first edge, or where the codes end.
+fn past_edge(codes: &[u16]) -> usize
+    ensures within { result ≤ length codes.now }
+    ensures until { take result codes.now ≡ until_edge codes.now }
+    ensures past { drop result codes.now ≡ past_edge codes.now }
 {
-    let mut i = from;
-    while i < to {
-        let code = codes[i];
-        match code {
-            0..=31 => {
-                return i + 1;
-            }
+    for (i, code) in codes.iter().enumerate() {
+        match *code {
+            0..=31 => return i + 1,
             32 => {}
             33 => {}
             // No step has another code.
             _ => {}
         }
-        i += 1;
     }
-    to
+    codes.len()
 }
 
-// The pairs of a stem of s codes and a cycle of m, turned.
+// The pairs of a stem and a cycle, turned.
 pub(crate) fn write_lasso(
-    codes: &[u16],
-    s: usize,
-    m: usize,
+    stem: &[u16],
+    cycle: &[u16],
     waits: &mut [u16],
     edges: &mut [u16],
 ) -> Lengths
-    requires few { s + m ≤ 2048 }
-    requires in_codes { s + m ≤ length codes.now }
+    requires few { length stem.now + length cycle.now ≤ 2048 }
     requires long_enough { RoomForPairs (lent_pairs waits.old edges.old) }
-    ensures { LassoWritten (lent_pairs waits.old edges.old) (lent_pairs waits.new edges.new)
-        (take s codes.now) (slice s (s + m) codes.now) result }
+    ensures { LassoWritten (lent_pairs waits.old edges.old) (lent_pairs waits.new edges.new) stem.now cycle.now
+        (given_work result.stem result.cycle) }
 {
-    let end = s + m;
-    let turn = past_edge(codes, s, end);
-    let stem = crate::pairs::write_pairs(codes, 0, turn, 0, 0, waits, edges);
-    let rest = crate::pairs::write_pairs(codes, turn, end, stem.count, 0, waits, edges);
-    let all = crate::pairs::write_pairs(codes, s, turn, rest.count, rest.wait, waits, edges);
+    let turn = past_edge(cycle);
+    let mut writer = PairWriter {
+        waits,
+        edges,
+        count: 0,
+        wait: 0,
+    };
+    writer.write(stem);
+    writer.write(&cycle[..turn]);
+    let stem_count = writer.count;
+    writer.wait = 0;
+    writer.write(&cycle[turn..]);
+    writer.write(&cycle[..turn]);
     Lengths {
-        refusal: 0,
-        stem: stem.count as u16,
-        cycle: (all.count - stem.count) as u16,
+        stem: stem_count as u16,
+        cycle: (writer.count - stem_count) as u16,
     }
 }

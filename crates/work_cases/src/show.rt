@@ -1,40 +1,33 @@
-// A case, as it is printed: its name and the pairs, or the refusal, on one line.
-use std::io;
+// A work plan, as it is printed.
+use refusals::Refusal;
+use std::fmt::{self, Display};
 use work::Lengths;
 
-// The entry at a place, or 0 past the end.
-fn entry(list: &[u16], at: usize) -> u16 {
-    if at < list.len() {
-        return list[at];
-    }
-    0
+// The pairs of the stem and of the cycle, or the number of the refusal.
+#[derive(Drop)]
+pub(crate) struct Answer<'a> {
+    pub result: Result<Lengths, Refusal>,
+    pub waits: &'a [u16],
+    pub edges: &'a [u16],
 }
 
-// The pairs from a place up to another.
-fn pairs(rt: &impl Print, waits: &[u16], edges: &[u16], from: usize, to: usize) -> io::Result<()> {
-    for i in from..to {
-        print!(rt; " ({}, {})", entry(waits, i), entry(edges, i))?;
+impl Display for Answer<'_> {
+    fn fmt<W: fmt::Write>(&self, f: &mut fmt::Formatter<W>) -> fmt::Result {
+        match self.result {
+            Ok(Lengths { stem, cycle }) => {
+                let stem = usize::from(stem);
+                let cycle = usize::from(cycle);
+                f.write_str("stem")?;
+                for (wait, edge) in self.waits.iter().zip(self.edges).take(stem) {
+                    write!(f, " ({wait}, {edge})")?;
+                }
+                f.write_str(", cycle")?;
+                for (wait, edge) in self.waits.iter().zip(self.edges).skip(stem).take(cycle) {
+                    write!(f, " ({wait}, {edge})")?;
+                }
+                Ok(())
+            }
+            Err(refusal) => write!(f, "refused {}", refusal.number()),
+        }
     }
-    Ok(())
-}
-
-pub(crate) fn line(
-    rt: &impl Print,
-    name: &[u8],
-    answer: Lengths,
-    waits: &[u16],
-    edges: &[u16],
-) -> io::Result<()> {
-    rt.write_all(name)?;
-    if answer.refusal == 0 {
-        let stem = answer.stem as usize;
-        let all = stem + answer.cycle as usize;
-        print!(rt; ": stem")?;
-        pairs(rt, waits, edges, 0, stem)?;
-        print!(rt; ", cycle")?;
-        pairs(rt, waits, edges, stem, all)?;
-    } else {
-        print!(rt; ": refused {}", answer.refusal)?;
-    }
-    println!(rt)
 }

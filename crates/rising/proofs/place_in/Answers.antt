@@ -8,7 +8,7 @@ use Rattle.rising.proofs.place_in.Goals as goal
 
 pub loop-size-init : goal.loop-size-init
 loop-size-init c =
-    begun _ _ _ _ c.lesser-size.ensures
+    begun _ _ _ _ c.min-size.ensures
 
 pub loop-size-preserved : goal.loop-size-preserved
 loop-size-preserved c =

@@ -17,4 +17,4 @@ returns c =
     let if1 = c.if-sheet-l in
     let record_of = c.location_record-location in
     c.is_number.ensures ∙ by_location args.sheet args.number (subst (λ (l : ℕ). l < args.sheet.locations) c.location_in-l.ensures if1.false)
-    record_of.result (record_of.ensures ∙ ap (location_in args.sheet) c.location_in-l.ensures)
+    record_of.result (record_of.ensures ∙ ap (location_in args.sheet) (c.from.ensures ∙ c.location_in-l.ensures))

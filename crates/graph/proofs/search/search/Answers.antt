@@ -1,66 +1,81 @@
--- `graph::search::search` meets its contract. The loop's invariant is `Running` at a round's start, and that the buffers are as they were.
-use mathlib.Core.Path.{◌≡◌, refl, ap}
-use Prim.Native.Nat.{◌+◌, ◌*◌, ◌<◌}
+-- `Running` at a round's start, and the buffers are as they were.
+use mathlib.Core.Path.{◌≡◌, refl, sym, ap, subst}
 use native.Mathlib.Omega.{arith}
-use lib.ListN.{length}
-use Rattle.walks.specs.SearchNumbers.{raised_all, start, per_round}
-use Rattle.walks.specs.SearchTerms.{Climbed, raised_weight, Running}
+use lib.ListN.{set, drop, replicate}
+use lib.IntN.{ℤ, pos}
+use Rattle.walks.specs.SearchNumbers.{per_round}
+use Rattle.walks.specs.SearchTerms.{Running}
+use mathlib.Core.List.{List, ◌++◌}
 use Rattle.walks.proofs.RaisedWeights.{widen}
 use Rattle.walks.proofs.RoundTurns.{turn_lengths, view, all_settled, go_on, first_round}
-use Rattle.graph.proofs.Found.{potentials_found, few, cycle_found}
+use Rattle.graph.proofs.Found.{potentials_found, part_of, sized, copied_whole, cycle_found}
 use Rattle.graph.proofs.search.search.Goals as goal
 
-pub loop-k-init : goal.loop-k-init
-loop-k-init c =
-    (first_round _ _ _ _ _ _ _ 2048 refl (widen c.requires.is_graph) c.requires.in_range, refl, refl, refl)
+pub loop-v-init : goal.loop-v-init
+loop-v-init c =
+    let a = c.args.arcs in
+    let k = c.args.k in
+    let e : c.fill.new.self ≡ replicate 2048 (pos 1152921504606846976) = c.fill.ensures.after (λ y h. h) in (
+      subst (λ (l : List ℤ). Running a.from.now a.to.now a.cost.now a.reward.now k.a k.b k.c (set l 0 (pos 0)) (replicate 2048 0) (set (replicate 2048 0) 0 per_round) per_round 0)
+          (sym e) (first_round _ _ _ _ _ _ _ 2048 refl (widen c.requires.is_graph) c.requires.in_range),
+      refl,
+      refl,
+      refl,
+    )
 
-pub climb-part-requires-clause-is_view : goal.climb-part-requires-clause-is_view
-climb-part-requires-clause-is_view c =
-    let v = c.loop-k.invariant.0 in
-    view v.graph v.in_range c.round-v.ensures
+pub climb-requires-clause-is_view : goal.climb-requires-clause-is_view
+climb-requires-clause-is_view c = view (widen c.requires.is_graph) c.requires.in_range c.in-Some.ensures.1
 
-pub arcs-requires-clause-source_room : goal.arcs-requires-clause-source_room
-arcs-requires-clause-source_room c =
-    let climbed : Climbed c.args.from.now c.args.to.now (raised_weight c.args.k.a c.args.k.b c.args.k.c c.args.cost.now c.args.reward.now) (length c.args.from.now) (raised_all start c.round-v.new.potential) c.round-v.new.stamp c.climb-part.new.climbed 2048 c.round-v.result c.climb-part.result.start c.climb-part.result.end =
-    let v = c.loop-k.invariant.0 in c.climb-part.ensures (view v.graph v.in_range c.round-v.ensures) in
-    let h = c.if-at-end.true in
-    let n = climbed.climbed_len in
-    let o = climbed.cycle h in
-    omega (arith, n, o.0, h)
+pub offset_bounds-climbed-part : goal.offset_bounds-climbed-part
+offset_bounds-climbed-part c =
+    let p = part_of c.requires.is_graph c.requires.in_range c.in-Some.ensures.1 c.in-Some-climb.ensures in
+    omega (arith, p.some, p.within)
 
-pub arcs-requires-clause-target_room : goal.arcs-requires-clause-target_room
-arcs-requires-clause-target_room c =
-    let climbed : Climbed c.args.from.now c.args.to.now (raised_weight c.args.k.a c.args.k.b c.args.k.c c.args.cost.now c.args.reward.now) (length c.args.from.now) (raised_all start c.round-v.new.potential) c.round-v.new.stamp c.climb-part.new.climbed 2048 c.round-v.result c.climb-part.result.start c.climb-part.result.end =
-    let v = c.loop-k.invariant.0 in c.climb-part.ensures (view v.graph v.in_range c.round-v.ensures) in
-    let h = c.if-at-end.true in
-    let n = climbed.climbed_len in
-    let o = climbed.cycle h in
-    omega (arith, few c.requires.is_graph c.requires.in_range c.climb-part.new.climbed c.climb-part.result.start c.climb-part.result.end n o.0 o.1, c.requires.cycle_room, ap length c.loop-k.invariant.3)
+pub slice_bounds-found-count : goal.slice_bounds-found-count
+slice_bounds-found-count c =
+    let p = part_of c.requires.is_graph c.requires.in_range c.in-Some.ensures.1 c.in-Some-climb.ensures in
+    omega (arith, p.some)
 
-pub returns-then-at-end-clause-cycle_found : goal.returns-then-at-end-clause-cycle_found
-returns-then-at-end-clause-cycle_found c =
-    let climbed : Climbed c.args.from.now c.args.to.now (raised_weight c.args.k.a c.args.k.b c.args.k.c c.args.cost.now c.args.reward.now) (length c.args.from.now) (raised_all start c.round-v.new.potential) c.round-v.new.stamp c.climb-part.new.climbed 2048 c.round-v.result c.climb-part.result.start c.climb-part.result.end =
-    let v = c.loop-k.invariant.0 in c.climb-part.ensures (view v.graph v.in_range c.round-v.ensures) in
-    let h = c.if-at-end.true in
-    let n = climbed.climbed_len in
-    let o = climbed.cycle h in
-    λ _. cycle_found c.requires.is_graph c.requires.in_range c.climb-part.new.climbed c.climb-part.result.start c.climb-part.result.end n o.0 o.1 h c.loop-k.invariant.2
-    c.arcs.ensures c.loop-k.invariant.3
+pub slice_bounds-found-start : goal.slice_bounds-found-start
+slice_bounds-found-start c =
+    let p = part_of c.requires.is_graph c.requires.in_range c.in-Some.ensures.1 c.in-Some-climb.ensures in
+    omega (arith, p.some, p.within)
 
-pub loop-k-preserved : goal.loop-k-preserved
-loop-k-preserved c =
-    let climbed : Climbed c.args.from.now c.args.to.now (raised_weight c.args.k.a c.args.k.b c.args.k.c c.args.cost.now c.args.reward.now) (length c.args.from.now) (raised_all start c.round-v.new.potential) c.round-v.new.stamp c.climb-part.new.climbed 2048 c.round-v.result c.climb-part.result.start c.climb-part.result.end =
-    let v = c.loop-k.invariant.0 in c.climb-part.ensures (view v.graph v.in_range c.round-v.ensures) in
-    let onward : (c.loop-k.b < per_round * 2048) × Running c.args.from.now c.args.to.now c.args.cost.now c.args.reward.now c.args.k.a c.args.k.b c.args.k.c c.round-v.new.potential c.round-v.new.parent c.round-v.new.stamp (c.loop-k.b + per_round) 0 =
-    let v = c.loop-k.invariant.0 in
-    go_on v.graph v.in_range c.round-v.ensures c.if-v-eq2048.false (climbed.root c.if-at-end.false) c.round-v.new.potential refl in
-    (onward.1, climbed.climbed_len, c.loop-k.invariant.2, c.loop-k.invariant.3)
+pub slice_bounds-found-end : goal.slice_bounds-found-end
+slice_bounds-found-end c =
+    let p = part_of c.requires.is_graph c.requires.in_range c.in-Some.ensures.1 c.in-Some-climb.ensures in
+    omega (arith, p.some, p.within)
 
-pub returns-then-v-eq2048-clause-potentials_found : goal.returns-then-v-eq2048-clause-potentials_found
-returns-then-v-eq2048-clause-potentials_found c =
-    let left : (length c.round-v.new.potential ≡ 2048) × (length c.round-v.new.parent ≡ 2048) × (length c.round-v.new.stamp ≡ 2048) =
-    turn_lengths c.round-v.new.potential c.round-v.ensures.state in
-    let v = c.loop-k.invariant.0 in
-    λ _. potentials_found c.requires.is_graph c.requires.in_range c.round-v.new.potential left.0
-    (all_settled v.graph v.in_range c.round-v.ensures c.if-v-eq2048.true)
-    c.potentials.ensures c.loop-k.invariant.2 c.loop-k.invariant.3
+pub slice_bounds-copy_from_slice-end : goal.slice_bounds-copy_from_slice-end
+slice_bounds-copy_from_slice-end c =
+    let p = part_of c.requires.is_graph c.requires.in_range c.in-Some.ensures.1 c.in-Some-climb.ensures in
+    omega (arith, sized c.requires.is_graph c.requires.in_range p, p.few, c.requires.cycle_room, c.loop-v.auto.cycle)
+
+pub slice_bounds-copy_from_slice-end-in-Some-climb : goal.slice_bounds-copy_from_slice-end-in-Some-climb
+slice_bounds-copy_from_slice-end-in-Some-climb c =
+    let p = part_of c.requires.is_graph c.requires.in_range c.in-Some.ensures.1 c.in-Some-climb.ensures in
+    sym (copied_whole c.requires.is_graph c.requires.in_range p c.loop-v.cycle (omega (arith, c.requires.cycle_room, c.loop-v.auto.cycle)))
+
+pub copy_from_slice-requires : goal.copy_from_slice-requires
+copy_from_slice-requires c =
+    let p = part_of c.requires.is_graph c.requires.in_range c.in-Some.ensures.1 c.in-Some-climb.ensures in
+    copied_whole c.requires.is_graph c.requires.in_range p c.loop-v.cycle (omega (arith, c.requires.cycle_room, c.loop-v.auto.cycle))
+
+pub returns-in-Some-climb : goal.returns-in-Some-climb
+returns-in-Some-climb c =
+    let p = part_of c.requires.is_graph c.requires.in_range c.in-Some.ensures.1 c.in-Some-climb.ensures in
+    cycle_found c.requires.is_graph c.requires.in_range p c.copy_from_slice.ensures.after refl refl c.loop-v.invariant.3
+
+pub loop-v-preserved : goal.loop-v-preserved
+loop-v-preserved c =
+    let y = c.in-Some.ensures in
+    let climbed = c.in_default-climb.ensures (view (widen c.requires.is_graph) c.requires.in_range y.1) in
+    let onward = go_on (widen c.requires.is_graph) c.requires.in_range y.1 (λ e. omega (arith, y.0, e)) (climbed.root (omega arith)) c.round.new.self.potential refl in
+    (onward.1, c.climb.array_long, refl, c.loop-v.invariant.3)
+
+pub returns : goal.returns
+returns c =
+    let left = turn_lengths c.round.new.self.potential c.in_default.ensures.state in
+    potentials_found c.requires.is_graph c.requires.in_range c.round.new.self.potential left.0
+    (all_settled (widen c.requires.is_graph) c.requires.in_range c.in_default.ensures refl)
+    (ap (λ (x : List ℤ). x ++ drop c.args.nodes c.args.potential.now) c.copy_from_slice-2.ensures.after) refl c.loop-v.invariant.3

@@ -17,15 +17,15 @@ loop-x-preserved c =
     let v = c.loop-x.invariant in
     let p = c.loop-x-test.true in
     let b = c.requires.is_tree.earlier c.loop-x.x v.0 p in (
-      omega (arith, c.entry-x.ensures, v.0),
+      omega (arith, c.from-x.ensures, v.0),
       (
         simp length-set v.1.0,
         (
-          omega (arith, c.entry-x.ensures, v.1.1.0),
+          omega (arith, c.from-x.ensures, v.1.1.0),
           (
             omega (arith, v.1.1.1.0),
             stem_on c.args.from.now c.args.tree.now c.loop-x.path
-                c.args.nodes c.loop-x.x c.loop-x.top c.args.h c.entry-x.result v.1.1.1.1 v.0 p (omega (arith, ahead)) in_path c.entry-x.ensures,
+                (length c.args.tree.now) c.loop-x.x c.loop-x.top c.args.h c.from-x.result v.1.1.1.1 v.0 p (omega (arith, ahead)) in_path c.from-x.ensures,
           ),
         ),
       ),

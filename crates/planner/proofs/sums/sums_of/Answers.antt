@@ -1,19 +1,18 @@
--- From the last arc to the first: the sums of those passed.
-use mathlib.Core.Path.{refl, sym, subst}
-use Prim.Native.Nat.{◌+◌, ◌-◌}
-use native.Mathlib.Omega.{arith}
-use lib.IntN.{ℤ}
-use mir.Syntax.{w64}
-use mir.Val.{to_z}
-use Rattle.ratio.proofs.SumLaws.{sum_again}
-use Rattle.planner.proofs.SumLaws.{SumsFrom, summed_more}
+-- The sums of the arcs passed.
+use mathlib.Core.Path.{◌≡◌}
+use Prim.Native.Nat.{◌≤◌, ◌<◌}
+use lib.IntN.{nat_abs}
+use Rattle.std.proofs.Common.{rules}
+use Rattle.walks.specs.Walk.{at, atℤ}
+use Rattle.planner.proofs.SumLaws.{summed_more}
 use Rattle.planner.proofs.sums.sums_of.Goals as goal
 
-pub loop-i-preserved : goal.loop-i-preserved
-loop-i-preserved c =
-    let a = c.args in
-    let z = c.cost_of-costs in
-    subst (λ (x : ℤ). SumsFrom a.code.now a.cost.now a.reward.now a.arcs.now a.from a.to (c.loop-i.i - 1) (c.units_of-units.result + c.loop-i.units) x (c.reward_of-rewards.result + c.loop-i.rewards))
-    (sym (sum_again (to_z w64 c.loop-i.costs-bits) z.result (a.to - c.loop-i.i) (omega (arith, c.requires.few)) c.loop-i.invariant.cost_small z.ensures.small _ refl))
-    (summed_more a.code.now a.cost.now a.reward.now a.arcs.now a.from a.to c.requires c.loop-i.invariant
-    c.loop-i-test.true c.units_of-units.ensures.value c.units_of-units.ensures.small z.ensures.value z.ensures.small c.reward_of-rewards.ensures.value c.reward_of-rewards.ensures.small)
+pub loop-e-preserved : goal.loop-e-preserved
+loop-e-preserved c =
+    let g = c.args.graph in
+    let e = at c.args.cycle.now c.loop-e.e-index in
+    let cost : c.from-cost.result ≡ atℤ g.arcs.cost.now e = search rules in
+    let cost_small : nat_abs c.from-cost.result ≤ 32768 = search rules in
+    let reward : c.from-reward.result ≡ at g.arcs.reward.now e = search rules in
+    let reward_small : c.from-reward.result < 65536 = search rules in
+    summed_more c.requires c.loop-e.invariant c.loop-e-test.true c.units_of-units.ensures.value c.units_of-units.ensures.small cost cost_small reward reward_small

@@ -1,13 +1,10 @@
--- From the last arc to the first: the sum of those passed.
+-- The sum of the arcs passed.
 use mathlib.Core.Path.{◌≡◌}
-use Prim.Native.Nat.{◌-◌, ◌*◌, ◌≤◌}
-use lib.Seq.{slice}
+use Prim.Native.Nat.{◌*◌, ◌≤◌}
+use lib.ListN.{take}
 use Rattle.walks.specs.Walk.{at}
 use Rattle.walks.specs.Weight.{total}
 use Rattle.ratio.proofs.fraction.reward_sum.Given as goal
 
-abbrev pub invariant-loop-i : goal.invariant-loop-i
-invariant-loop-i l = (l.i ≤ l.k) × ((l.x ≡ total (at l.reward) (slice l.i l.k l.arcs)) × (l.x ≤ 65536 * (l.k - l.i)))
-
-abbrev pub decreases-loop-i : goal.decreases-loop-i
-decreases-loop-i l = l.i
+abbrev pub invariant-loop-e : goal.invariant-loop-e
+invariant-loop-e l = (l.x ≡ total (at l.reward) (take l.e-index l.cycle)) × (l.x ≤ 65536 * l.e-index)

@@ -1,37 +1,32 @@
 -- The loop, and what it comes to.
-use mathlib.Core.Path.{refl}
+use mathlib.Core.Path.{refl, ap}
+use mathlib.Core.List.{List, ◌++◌}
 use Prim.Native.Nat.{◌≤◌}
 use native.Mathlib.Omega.{arith}
 use lib.IntN.{neg_ℤ}
-use lib.ListN.{length}
-use Rattle.integers.proofs.Machine.{small}
+use lib.ListN.{length, drop}
+use Prim.Native.Nat.{ℕ}
 use Rattle.ratio.specs.Answer.{yes_to_both}
-use Rattle.ratio.specs.Turns.{LeastInHand}
 use Rattle.ratio.proofs.Searches.{no_idle_gain}
-use Rattle.ratio.proofs.TurnLaws.{settled_least, again_settled}
 use Rattle.ratio.proofs.RatioAnswerLaws.{copied_front, copied_rest}
 use Rattle.ratio.proofs.improve.least_from.Goals as goal
 
-pub returns-in-Least : goal.returns-in-Least
-returns-in-Least c =
-    let least : let a = c.args in LeastInHand a.from.now a.to.now a.cost.now a.reward.now a.nodes a.potential.now c.settle-settled.new.potential c.settle-settled.new.hand c.in-Least.p c.in-Least.q c.in-Least.arcs =
+pub returns : goal.returns
+returns c =
     let a = c.args in
-    settled_least a.from.now a.to.now a.cost.now a.reward.now a.nodes a.potential.now c.settle-settled.new.potential c.settle-settled.new.hand
-    c.settle-settled.result c.settle-settled.ensures c.in-Least.p c.in-Least.q c.in-Least.arcs c.in-Least.is in
-    let a = c.args in
-    let l = again_settled (small c.in-Least.p 20480001 (omega (arith, least.p_small)) (omega arith)) least in
+    let l = c.in-Some.ensures in
     let h = l.in_hand in
-    let k = c.in-Least.arcs in
-    let copied = c.arcs in
+    let k = c.in-Some.ratio.arcs in
     let cycle = a.cycle.now in
-    let cycle' = copied.new.d in
-    let fits : k ≤ length c.settle-settled.new.hand = omega (arith, h.short, h.room) in
-    let front = copied_front c.settle-settled.new.hand cycle cycle' k fits copied.ensures in (
+    let hand = c.settle.new.hand in
+    let copied = ap (λ (x : List ℕ). x ++ drop k cycle) c.copy_from_slice.ensures.after in
+    let fits : k ≤ length hand = omega (arith, h.short, h.room) in
+    let front = copied_front hand cycle _ k fits copied in (
       (
         c.requires.ratio_arguments,
         yes_to_both refl (record { arcs = _; cycle = h.cycle; earns = l.earns })
-            (no_idle_gain c.in-Least.q (neg_ℤ c.in-Least.p) a.cost.now a.reward.now a.from.now a.to.now
-            l.ratio.lowest.positive least.none_below),
+            (no_idle_gain c.in-Some.ratio.q (neg_ℤ c.in-Some.ratio.p) a.arcs.cost.now a.arcs.reward.now a.arcs.from.now a.arcs.to.now
+            l.ratio.lowest.positive l.none_below),
       ),
       record {
         short = h.short;
@@ -43,6 +38,6 @@ returns-in-Least c =
         none_below = l.none_below;
         potentials = l.potentials;
         rest_potential = l.rest;
-        rest_cycle = copied_rest c.settle-settled.new.hand cycle cycle' k fits copied.ensures;
+        rest_cycle = copied_rest hand cycle _ k fits copied;
       },
     )

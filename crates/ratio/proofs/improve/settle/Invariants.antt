@@ -8,7 +8,7 @@ use Rattle.ratio.proofs.Heights.{height}
 use Rattle.ratio.proofs.improve.settle.Given as goal
 
 abbrev pub invariant-loop-j : goal.invariant-loop-j
-invariant-loop-j l = (InHand l.from l.to l.nodes l.hand l.arcs × Earns l.reward l.hand l.arcs) × ((length l.hand ≡ length l.initial.hand) × (l.potential ≡ l.initial.potential))
+invariant-loop-j l = (InHand l.arcs.from.now l.arcs.to.now l.nodes l.hand l.k × Earns l.arcs.reward.now l.hand l.k) × ((length l.hand ≡ length l.initial.hand) × (l.potential ≡ l.initial.potential))
 
 abbrev pub decreases-loop-j : goal.decreases-loop-j
-decreases-loop-j l = height (sum (atℤ l.cost) (take l.arcs l.hand)) (total (at l.reward) (take l.arcs l.hand))
+decreases-loop-j l = height (sum (atℤ l.arcs.cost.now) (take l.k l.hand)) (total (at l.arcs.reward.now) (take l.k l.hand))

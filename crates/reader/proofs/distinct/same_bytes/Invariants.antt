@@ -11,9 +11,3 @@ invariant-loop-i l = (l.i ≤ l.count) × (each l.i (same_at l.s l.x l.y) ≡ tr
 
 abbrev pub decreases-loop-i : goal.decreases-loop-i
 decreases-loop-i l = l.count - l.i
-
-abbrev pub invariant-bytes : goal.invariant-bytes
-invariant-bytes l = Unit
-
-abbrev pub decreases-bytes : goal.decreases-bytes
-decreases-bytes l = 0

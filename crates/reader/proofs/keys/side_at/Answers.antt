@@ -16,7 +16,7 @@ eight-requires c =
 pub returns-then-count-lt8 : goal.returns-then-count-lt8
 returns-then-count-lt8 c =
     let a = c.args in
-    c.four.ensures ∙ four_at_lem a.count a.s.now a.at (search rules)
+    c.from.ensures ∙ c.four.ensures ∙ four_at_lem a.count a.s.now a.at (search rules)
 
 pub returns-else-count-lt8 : goal.returns-else-count-lt8
 returns-else-count-lt8 c =

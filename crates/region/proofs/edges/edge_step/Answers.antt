@@ -3,7 +3,7 @@ use borrow.Author.Tests.{ne_eqb}
 use Rattle.nodes.specs.Decoded.{alone}
 use Rattle.region.proofs.edges.edge_step.Goals as goal
 
-pub returns : goal.returns
+pub returns-else-edition-eq1 : goal.returns-else-edition-eq1
 unfolding alone
-returns c =
-    simp (ne_eqb _ 1 c.if-edition-eq1.false) c.edge_second.ensures
+returns-else-edition-eq1 c =
+    simp (ne_eqb _ 1 c.if-edition-eq1.false) c.edge_in-else-edition-eq1.ensures

@@ -9,15 +9,12 @@ use Rattle.region.proofs.DigitLaws.{values_none, values_more}
 use Rattle.std.proofs.Common.{rules}
 use Rattle.region.proofs.ranks.value_digits.Goals as goal
 
-pub loop-j-init : goal.loop-j-init
-loop-j-init c =
-    (search rules, values_none c.args.class)
+pub loop-k-init : goal.loop-k-init
+loop-k-init c = values_none c.args.class
 
-pub loop-j-preserved : goal.loop-j-preserved
-loop-j-preserved c =
+pub loop-k-preserved : goal.loop-k-preserved
+loop-k-preserved c =
     let xs = c.args.class in
-    let j = c.loop-j.j in
-    let small = c.requires j in (
-      search rules,
-      ap₂ bit_or c.loop-j.invariant.1 (one_shl 32 (4 * get_or xs j 0) (omega (arith, small))) ∙ values_more xs j (search rules) small,
-    )
+    let j = c.loop-k.k-index in
+    let small = c.requires j in
+    rw c.from.ensures (ap₂ bit_or c.loop-k.invariant (one_shl 32 (4 * get_or xs j 0) (omega (arith, small))) ∙ values_more xs j (search rules) small)

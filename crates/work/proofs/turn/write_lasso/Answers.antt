@@ -1,57 +1,42 @@
--- The three parts, one after another.
-use Prim.Native.Nat.{◌+◌, ◌-◌}
+-- The four parts, one after another.
+use mathlib.Core.Path.{refl, ◌∙◌}
 use native.Mathlib.Omega.{arith}
-use lib.ListN.{take}
-use lib.Seq.{slice}
-use Rattle.work.specs.Work.{lent_pairs}
-use Rattle.work.specs.PrivatePromises.{LassoWritten}
-use Rattle.work.proofs.LassoSteps.{Parted, first_room, second_room, third_room, lasso_written}
+use borrow.Author.Rules.{rules}
+use Rattle.work.proofs.LassoSteps.{first_room, second_room, third_room, fourth_room, lasso_written}
 use Rattle.work.proofs.turn.write_lasso.Goals as goal
 
-pub write_pairs-stem-requires-clause-room : goal.write_pairs-stem-requires-clause-room
-write_pairs-stem-requires-clause-room c =
-    let t = c.past_edge-turn.ensures in
-    let parted : Parted c.args.codes.now c.args.s c.args.m c.past_edge-turn.result =
-    record { few = c.requires.few; there = c.requires.in_codes; low = t.from_on; high = t.within; turns = (t.until, t.past) } in
-    first_room parted c.requires.long_enough
+pub write-requires : goal.write-requires
+write-requires c = let t = c.past_edge-turn.ensures in
+    first_room _ _ c.requires.few t.within (record { until = t.until; past = t.past }) c.requires.long_enough
 
-pub write_pairs-rest-requires-clause-room : goal.write_pairs-rest-requires-clause-room
-write_pairs-rest-requires-clause-room c =
-    let t = c.past_edge-turn.ensures in
-    let parted : Parted c.args.codes.now c.args.s c.args.m c.past_edge-turn.result =
-    record { few = c.requires.few; there = c.requires.in_codes; low = t.from_on; high = t.within; turns = (t.until, t.past) } in
-    second_room parted c.requires.long_enough c.write_pairs-stem.ensures
+pub write-requires-2 : goal.write-requires-2
+write-requires-2 c = let t = c.past_edge-turn.ensures in
+    second_room _ _ c.requires.few t.within (record { until = t.until; past = t.past }) c.requires.long_enough c.write.ensures.written
 
-pub write_pairs-all-requires-clause-room : goal.write_pairs-all-requires-clause-room
-write_pairs-all-requires-clause-room c =
-    let t = c.past_edge-turn.ensures in
-    let parted : Parted c.args.codes.now c.args.s c.args.m c.past_edge-turn.result =
-    record { few = c.requires.few; there = c.requires.in_codes; low = t.from_on; high = t.within; turns = (t.until, t.past) } in
-    third_room parted c.requires.long_enough c.write_pairs-stem.ensures c.write_pairs-rest.ensures
+pub write-requires-3 : goal.write-requires-3
+write-requires-3 c = let t = c.past_edge-turn.ensures in
+    third_room _ _ c.requires.few t.within (record { until = t.until; past = t.past }) c.requires.long_enough c.write.ensures.written c.write-2.ensures.written
+
+pub write-requires-4 : goal.write-requires-4
+write-requires-4 c = let t = c.past_edge-turn.ensures in
+    fourth_room _ _ c.requires.few t.within (record { until = t.until; past = t.past }) c.requires.long_enough c.write.ensures.written c.write-2.ensures.written
+    c.write-3.ensures.written
 
 pub overflow_cast-result : goal.overflow_cast-result
-overflow_cast-result c =
-    let t = c.past_edge-turn.ensures in
-    let parted : Parted c.args.codes.now c.args.s c.args.m c.past_edge-turn.result =
-    record { few = c.requires.few; there = c.requires.in_codes; low = t.from_on; high = t.within; turns = (t.until, t.past) } in
-    let written : let a = c.args in LassoWritten (lent_pairs a.waits.now a.edges.now) (lent_pairs c.write_pairs-all.new.waits c.write_pairs-all.new.edges) (take a.s a.codes.now) (slice a.s (a.s + a.m) a.codes.now) (record { refusal = 0; stem = c.write_pairs-stem.result.count; cycle = c.write_pairs-all.result.count - c.write_pairs-stem.result.count }) =
-    lasso_written parted c.requires.long_enough c.write_pairs-stem.ensures c.write_pairs-rest.ensures c.write_pairs-all.ensures in
-    let h = written in omega (arith, h.stem_length, h.few)
+overflow_cast-result c = let t = c.past_edge-turn.ensures in
+    let w = lasso_written _ _ c.requires.few t.within (record { until = t.until; past = t.past }) c.requires.long_enough c.write.ensures.written c.write-2.ensures.written
+    c.write-3.ensures.written c.write-4.ensures.written refl refl in
+    omega (arith, w.stem_length, w.few)
 
 pub overflow_cast-result-2 : goal.overflow_cast-result-2
-overflow_cast-result-2 c =
-    let t = c.past_edge-turn.ensures in
-    let parted : Parted c.args.codes.now c.args.s c.args.m c.past_edge-turn.result =
-    record { few = c.requires.few; there = c.requires.in_codes; low = t.from_on; high = t.within; turns = (t.until, t.past) } in
-    let written : let a = c.args in LassoWritten (lent_pairs a.waits.now a.edges.now) (lent_pairs c.write_pairs-all.new.waits c.write_pairs-all.new.edges) (take a.s a.codes.now) (slice a.s (a.s + a.m) a.codes.now) (record { refusal = 0; stem = c.write_pairs-stem.result.count; cycle = c.write_pairs-all.result.count - c.write_pairs-stem.result.count }) =
-    lasso_written parted c.requires.long_enough c.write_pairs-stem.ensures c.write_pairs-rest.ensures c.write_pairs-all.ensures in
-    let h = written in omega (arith, h.cycle_length, h.few)
+overflow_cast-result-2 c = let t = c.past_edge-turn.ensures in
+    let w = lasso_written _ _ c.requires.few t.within (record { until = t.until; past = t.past }) c.requires.long_enough c.write.ensures.written c.write-2.ensures.written
+    c.write-3.ensures.written c.write-4.ensures.written refl refl in
+    omega (arith, w.cycle_length, w.few)
 
 pub returns : goal.returns
-returns c =
-    let t = c.past_edge-turn.ensures in
-    let parted : Parted c.args.codes.now c.args.s c.args.m c.past_edge-turn.result =
-    record { few = c.requires.few; there = c.requires.in_codes; low = t.from_on; high = t.within; turns = (t.until, t.past) } in
-    let written : let a = c.args in LassoWritten (lent_pairs a.waits.now a.edges.now) (lent_pairs c.write_pairs-all.new.waits c.write_pairs-all.new.edges) (take a.s a.codes.now) (slice a.s (a.s + a.m) a.codes.now) (record { refusal = 0; stem = c.write_pairs-stem.result.count; cycle = c.write_pairs-all.result.count - c.write_pairs-stem.result.count }) =
-    lasso_written parted c.requires.long_enough c.write_pairs-stem.ensures c.write_pairs-rest.ensures c.write_pairs-all.ensures in
-    written
+returns c = let t = c.past_edge-turn.ensures in
+    let waits = c.write-4.ensures.same.waits ∙ c.write-3.ensures.same.waits ∙ c.write-2.ensures.same.waits ∙ c.write.ensures.same.waits in
+    let edges = c.write-4.ensures.same.edges ∙ c.write-3.ensures.same.edges ∙ c.write-2.ensures.same.edges ∙ c.write.ensures.same.edges in
+    lasso_written _ _ c.requires.few t.within (record { until = t.until; past = t.past }) c.requires.long_enough c.write.ensures.written c.write-2.ensures.written
+    c.write-3.ensures.written c.write-4.ensures.written (search rules) (search rules)

@@ -1,6 +1,0 @@
--- Each line ends further on.
-use Rattle.std.proofs.Common.{length, ◌-◌}
-use Rattle.cases.proofs.each_line.Given as goal
-
-abbrev pub decreases-loop-at : goal.decreases-loop-at
-decreases-loop-at g l = length l.s - l.at
