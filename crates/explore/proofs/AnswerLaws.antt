@@ -9,7 +9,11 @@ use Rattle.contract.proofs.Arcs.{listed}
 use Rattle.explore.specs.Buffers.{GraphBuffers, found}
 use Rattle.explore.specs.Explorable.{Explorable}
 use Rattle.explore.specs.Answer.{Filled, Stopped, answered_no, answered_yes, ExploreAnswered}
-use Rattle.explore.specs.declared.Unexplored.TheVariants.{TooMany}
+use Rattle.explore.specs.declared.Unexplored.TheVariants.{Malformed, TooMany}
+
+-- docs/PORT.md names this; no proof cites it
+pub malformed_answered : (s : Sheet) (b : GraphBuffers) → (Explorable s b → ⊥) → ExploreAnswered s b b (Err Malformed)
+malformed_answered s b n = (n, refl)
 
 module _ (s : Sheet) (before after : GraphBuffers) (w : Explorable s before) where
   pub too_many_answered : Stopped (step_read s) (start_read s) before after → ExploreAnswered s before after (Err TooMany)

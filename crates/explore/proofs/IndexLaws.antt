@@ -103,6 +103,11 @@ module _ (N K I N' K' I' : List ℕ) (n x p : ℕ) (g : Index N K I n) (w : Plac
   }
 
 -- ---- what `enter` comes to
+
+-- docs/PORT.md names this; no proof cites it
+pub guessed : (N K I P : List ℕ) (n x m g : ℕ) → g < n → at N g ≡ x → Entered N K I P N K I P n x m (Some g)
+guessed N K I P n x m g h e = inl record { below = h; is = e; nodes = refl; sorted = refl; order = refl; tree = refl }
+
 module _ (N K I P : List ℕ) (n x m p : ℕ) (g : Index N K I n) (w : Place K n x p) where
   pub stood : {j : ℕ} → p < n → at K p ≡ x → j ≡ at I p → Entered N K I P N K I P n x m (Some j)
   stood h e f = subst (λ (j : ℕ). Entered N K I P N K I P n x m (Some j)) (sym f) (inl record {

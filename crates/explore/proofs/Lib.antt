@@ -1,3 +1,4 @@
+pub mod ShiftLaws
 pub mod IndexLaws
 pub mod CountLaws
 pub mod SearchLaws

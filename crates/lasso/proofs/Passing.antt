@@ -1,7 +1,8 @@
--- A turn of the loop that lays the stem, over plain lists.
-use mathlib.Core.Path.{◌≡◌, ap}
+-- A turn of the loop that lays the stem, over plain lists; and the least source of the first arcs of a cycle.
+use mathlib.Core.Path.{◌≡◌, sym, ap, subst}
 use mathlib.Core.List.{List}
-use Prim.Native.Nat.{ℕ, zero, suc, ◌-◌, ◌≤◌, ◌<◌}
+use Prim.Native.Nat.{ℕ, zero, suc, ◌+◌, ◌-◌, ◌≤◌, ◌<◌}
+use native.Mathlib.Decide.{ℕ_discrete}
 use native.Mathlib.Omega.{arith}
 use lib.ListN.{length, set}
 use lib.Seq.{slice}
@@ -9,6 +10,18 @@ use Rattle.walks.specs.Walk.{at}
 use Rattle.walks.specs.Lasso.{Tree, Stem}
 use Rattle.walks.proofs.Trees.{stored_before, stem_more}
 use Rattle.lasso.specs.Answer.{AlongTree}
+
+-- what holds of each number below i, and of i
+all_more : (P : ℕ → Type 0) (i : ℕ) → ((j : ℕ) → j < i → P j) → P i → (j : ℕ) → j < i + 1 → P j
+all_more P i below here j h = elim (ℕ_discrete j i) [
+  | yes e ↦ subst P (sym e) here
+  | no q ↦ below j (omega arith)
+]
+
+-- the least source of one arc more: docs/PORT.md names this; no proof cites it
+pub least_more : (F cycle : List ℕ) (i best x best' : ℕ) → ((j : ℕ) → j < i → best ≤ at F (at cycle j)) → x ≡ at F (at cycle i) → best' ≤ best → best' ≤ x
+    → (j : ℕ) → j < i + 1 → best' ≤ at F (at cycle j)
+least_more F cycle i best x best' p q l m = all_more (λ j. best' ≤ at F (at cycle j)) i (λ j h. omega (arith, p j h)) (omega (arith, q))
 
 -- one arc more, in front of the stem
 pub stem_on : (F tree path : List ℕ) (n x top h y : ℕ)

@@ -1,3 +1,4 @@
+pub mod PickedLaws
 pub mod SumLaws
 pub mod LassoLaws
 pub mod AcceptLaws

@@ -1,10 +1,11 @@
 -- The loop that sums up the arcs of a cycle.
-use mathlib.Core.Path.{◌≡◌, sym, ap₂, ◌∙◌}
+use mathlib.Core.Path.{◌≡◌, refl, sym, ap₂, ◌∙◌}
 use mathlib.Core.List.{List}
-use Prim.Native.Nat.{ℕ, ◌+◌, ◌*◌, ◌≤◌, ◌<◌}
+use Prim.Native.Nat.{ℕ, ◌+◌, ◌-◌, ◌*◌, ◌≤◌, ◌<◌}
 use native.Mathlib.Omega.{arith}
-use lib.IntN.{ℤ, nat_abs, ◌+ℤ◌}
+use lib.IntN.{ℤ, pos, nat_abs, ◌+ℤ◌}
 use lib.ListN.{length, take}
+use lib.Seq.{slice, slice_empty}
 use Rattle.automaton.specs.Times.{units_of}
 use Rattle.walks.specs.Walk.{at, atℤ}
 use Rattle.walks.specs.Weight.{sum, total}
@@ -35,3 +36,29 @@ summed_more {C} {Z} {R} {cycle} {i} {units} {cost} {reward} o h l {u} {z} {r} p 
       cost_small = rw back (sum_bound cost z i few h.cost_small small);
       reward_small = omega (arith, h.reward_small);
     }
+
+-- ---- from the last to the first: docs/PORT.md names this; no proof cites it
+
+module _ (C : List ℕ) (Z : List ℤ) (R arcs : List ℕ) (from to : ℕ) where
+  -- those from i on are passed
+  pub record SumsFrom (i units : ℕ) (cost : ℤ) (reward : ℕ) : Type 0 where
+    pub low : from ≤ i
+    pub high : i ≤ to
+    pub units_are : units ≡ total (λ e. units_of (at C e)) (slice i to arcs)
+    pub cost_is : cost ≡ sum (atℤ Z) (slice i to arcs)
+    pub reward_is : reward ≡ total (at R) (slice i to arcs)
+    pub units_few : units ≤ to - i
+    pub cost_small : nat_abs cost ≤ 65536 * (to - i)
+    pub reward_small : reward ≤ 65536 * (to - i)
+
+  pub summed_none : from ≤ to → SumsFrom to 0 (pos 0) 0
+  summed_none h = record {
+    low = h;
+    high = omega arith;
+    units_are = rw (slice_empty to arcs) refl;
+    cost_is = rw (slice_empty to arcs) refl;
+    reward_is = rw (slice_empty to arcs) refl;
+    units_few = omega arith;
+    cost_small = omega arith;
+    reward_small = omega arith;
+  }

@@ -13,7 +13,7 @@ use Rattle.integers.proofs.Parts.{up, dn}
 use Rattle.walks.specs.Form.{Graph, CoefficientsInRange}
 use Rattle.walks.specs.Weight.{weight_of}
 use Rattle.walks.specs.Cycles.{EarningArcs, NoneEarns, IdleGainArcs}
-use Rattle.std.specs.Prelude.{Option, Some, None, Result, Ok}
+use Rattle.std.specs.Prelude.{Option, Some, None, Result, Ok, Err}
 use Rattle.walks.specs.declared.Malformed.{Malformed}
 use Rattle.graph.specs.Answer as Search
 use Rattle.ratio.specs.Answer.{RatioQuestions, no_to_13, no_to_14, yes_to_both}
@@ -27,6 +27,14 @@ pub coded : (F T : List ℕ) (cost : List ℤ) (reward : List ℕ) (a b c : ℤ)
     → Search.SearchAnswered F T cost reward x y z n potential potential' arcs arcs' A → x ≡ a → y ≡ b → z ≡ c
     → Search.SearchAnswered F T cost reward a b c n potential potential' arcs arcs' A
 coded F T cost reward a b c n potential potential' arcs arcs' A s ea eb ec = rw (sym ea, sym eb, sym ec) s
+
+-- malformed arguments are no graph: docs/PORT.md names this; no proof cites it
+pub no_graph : (F T : List ℕ) (cost : List ℤ) (reward : List ℕ) (a b c : ℤ) (n : ℕ) (potential potential' : List ℤ) (arcs arcs' : List ℕ) (A : Result (Option ℕ) Malformed)
+    → Search.SearchAnswered F T cost reward a b c n potential potential' arcs arcs' A
+    → CoefficientsInRange a b c → n ≤ length potential → n ≤ length arcs → {m : Malformed} → A ≡ Err m → Graph F T cost reward n → ⊥
+no_graph F T cost reward a b c n potential potential' arcs arcs' A z k hp ha e g =
+    (subst (Search.SearchAnswered F T cost reward a b c n potential potential' arcs arcs') e z).0
+    (record { graph = g; in_range = k; potential_room = hp; cycle_room = ha })
 
 -- a search by rewards alone, each unit below 0
 pub record SearchByReward (F T : List ℕ) (cost : List ℤ) (reward : List ℕ) (n : ℕ) (potential potential' : List ℤ) (arcs arcs' : List ℕ) (A : Result (Option ℕ) Malformed) : Type 0 where

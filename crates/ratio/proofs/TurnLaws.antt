@@ -9,7 +9,7 @@ use mir.Syntax.{w64}
 use mir.Val.{SFits, to_z, of_z}
 use mir.ValLaws.{to_z-of_z, to_z_pos}
 use Rattle.integers.proofs.Machine.{small, back, carry}
-use Rattle.std.specs.Prelude.{Option, Result}
+use Rattle.std.specs.Prelude.{Option, None, Result}
 use Rattle.walks.specs.declared.Malformed.{Malformed}
 use Rattle.ratio.proofs.RatioAnswerLaws.{coded}
 use Rattle.integers.proofs.Parts.{abs_parts, neg_up, neg_dn}
@@ -18,7 +18,9 @@ use Rattle.walks.specs.Weight.{sum, total}
 use Rattle.walks.proofs.Weights.{weight_sum_0}
 use Rattle.graph.specs.Answer as Search
 use Rattle.ratio.specs.Answer.{RatioArguments, RatioOf}
-use Rattle.ratio.specs.Turns.{Reduced, InHand, Earns, Cheaper, LeastInHand, Improved, GainFound}
+use Rattle.ratio.specs.Turns.{Reduced, InHand, Earns, Cheaper, LeastInHand, Improved, GainFound, Turned, SettledBy}
+use Rattle.ratio.specs.declared.Ratio.{Ratio}
+use Rattle.ratio.specs.declared.improve.Turn.{Turn}
 use Rattle.ratio.proofs.Heights.{height, height_falls, cheaper}
 use Rattle.ratio.proofs.Bounds.{hand_cost, hand_reward}
 use Rattle.ratio.proofs.Searches.{simple_of, weight_by, idle_gain}
@@ -118,3 +120,24 @@ module _ {F T : List ℕ} {cost : List ℤ} {reward : List ℕ} {n a b : ℕ} (r
       more earned
       (hand_reward g h') (hand_reward g h)
       (hand_cost g h') (hand_cost g h) less
+
+-- ---- docs/PORT.md names these; no proof cites them
+
+pub same_arguments : {F T : List ℕ} {cost : List ℤ} {reward : List ℕ} {n a b a' b' : ℕ} → a' ≡ a → b' ≡ b
+    → RatioArguments F T cost reward n a b → RatioArguments F T cost reward n a' b'
+same_arguments ea eb r = rw (ea, eb) r
+
+-- the answers of a turn
+module _ (F T : List ℕ) (cost : List ℤ) (reward : List ℕ) (n k : ℕ) (potential potential' : List ℤ) (hand hand' : List ℕ) (t : Turn)
+    (z : Turned F T cost reward n k potential potential' hand hand' t) where
+  pub was_gain : t ≡ Turn.Gains → GainFound F T cost reward potential potential'
+  was_gain e = subst (Turned F T cost reward n k potential potential' hand hand') e z
+
+  pub was_done : (p : ℤ) (q : ℕ) → t ≡ Turn.Done (record { p = p; q = q }) → LeastInHand F T cost reward n potential potential' hand' p q k
+  was_done p q e = subst (Turned F T cost reward n k potential potential' hand hand') e z
+
+-- and of the loop
+module _ (F T : List ℕ) (cost : List ℤ) (reward : List ℕ) (n : ℕ) (potential potential' : List ℤ) (hand' : List ℕ) (v : Option Ratio)
+    (z : SettledBy F T cost reward n potential potential' hand' v) where
+  pub settled_gain : v ≡ None → GainFound F T cost reward potential potential'
+  settled_gain e = subst (SettledBy F T cost reward n potential potential' hand') e z

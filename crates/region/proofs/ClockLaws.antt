@@ -3,10 +3,11 @@ use mathlib.Core.Path.{◌≡◌, refl, sym, ap, ap₂, ◌∙◌}
 use mathlib.Core.Bool.{Bool, true, false, cond, ◌&&◌, ◌||◌}
 use mathlib.Core.List.{List, [], ◌∷◌, zip_with}
 use Prim.Native.Nat.{ℕ, zero, suc, ◌+◌, ◌≤◌, ◌<◌, min}
+use native.Mathlib.Numerals.{add-one}
 use native.Mathlib.Omega.{arith}
 use lib.Dec.{eqb, ltb}
 use lib.Seq.{take_all}
-use borrow.Author.Tests.{ltb-true, ltb-false}
+use borrow.Author.Tests.{ltb-true, ltb-false, ne_eqb}
 use lib.ListN.{length, get_or, take}
 use Rattle.std.specs.List.{list_any, list_all, range_with_len}
 use Rattle.automaton.specs.Tests.{occurs, every}
@@ -35,6 +36,17 @@ occurs_next v [] j h = absurd (omega arith)
 occurs_next v (x ∷ xs) zero h = refl
 occurs_next v (x ∷ xs) (suc j) h =
     either_first (eqb v (get_or xs j 0)) (eqb v x) (occurs v (take j xs)) ∙ ap (λ (b : Bool). eqb v x || b) (occurs_next v xs j (omega arith))
+
+occurs_suc : (v : ℕ) (xs : List ℕ) (j : ℕ) → j < length xs → occurs v (take j xs) ≡ false → (v ≡ get_or xs j 0 → ⊥) → occurs v (take (suc j) xs) ≡ false
+occurs_suc v xs j h e n = sym (occurs_next v xs j h) ∙ ap₂ ◌||◌ (ne_eqb v (get_or xs j 0) n) e
+
+-- docs/PORT.md names these; no proof cites them
+pub occurs_more : (v : ℕ) (xs : List ℕ) (j : ℕ) → j < length xs → occurs v (take j xs) ≡ false → (v ≡ get_or xs j 0 → ⊥)
+    → occurs v (take (j + 1) xs) ≡ false
+occurs_more v xs j h e n = ap (λ (m : ℕ). occurs v (take m xs)) (add-one j) ∙ occurs_suc v xs j h e n
+
+pub occurs_all : (v : ℕ) (xs : List ℕ) (k j : ℕ) → j ≤ k → k ≤ j → occurs v (take j xs) ≡ false → occurs v (take k xs) ≡ false
+occurs_all v xs k j h l e = let q : k ≡ j = omega arith in ap (λ (n : ℕ). occurs v (take n xs)) q ∙ e
 
 -- ---- a test of each clock's interval
 

@@ -6,7 +6,7 @@ use Prim.Native.Nat.{ℕ, ◌≤◌, ◌<◌}
 use native.Mathlib.Omega.{arith}
 use borrow.Author.Tests.{eq-eqb, ne_eqb, lt-ltb, le-ltb}
 use lib.Dec.{ltb, eqb}
-use lib.IntN.{ℤ}
+use lib.IntN.{ℤ, pos}
 use lib.ListN.{take}
 use Rattle.automaton.specs.Tests.{only, occurs}
 use Rattle.automaton.specs.Automaton.{Automaton}
@@ -159,3 +159,10 @@ module _ (e k : ℕ) (l : Location) (x : ℕ) where
     pub stays : (g : ℕ) → g ≡ largest n.region.class → occurs 0 (take kk n.region.class) ≡ false → g ≤ n.corner
         → refused_step 16 ≡ answered 33 (step_by y A x 33)
     stays g r h c = move_none (whole h) (omega (arith, corner, top, r))
+
+-- a free step to a node that lies within the bounds, or does not: docs/PORT.md names these; no proof cites them
+pub free_yes : (b : Bool) (z m : ℕ) → b ≡ true → z ≡ m → ◌≡◌ {A = Stepped} (record { refusal = 0; number = z; cost = pos 0; reward = 0; units = 0 }) (answered 33 (only b (free m)))
+free_yes b z m h q = (λ i. record { refusal = 0; number = q i; cost = pos 0; reward = 0; units = 0 }) ∙ sym (ap (λ (t : Bool). answered 33 (only t (free m))) h)
+
+pub free_no : (b : Bool) (m : ℕ) → b ≡ false → refused_step 16 ≡ answered 33 (only b (free m))
+free_no b m h = sym (ap (λ (t : Bool). answered 33 (only t (free m))) h)

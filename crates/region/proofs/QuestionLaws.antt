@@ -87,3 +87,14 @@ module _ (e k : ℕ) (l : Location) (x : ℕ) where
 
     pub there : number_in e n ≡ x → corners ≡ true → bounds_in l.upper kk n.region ≡ is_number y A x
     there p r = sym (parts ∙ ap₂ (λ (a b : Bool). a && (b && bounds_in l.upper kk n.region)) (eq-eqb _ _ p) r)
+
+-- the corner by the largest class: docs/PORT.md names these; no proof cites them
+module _ (ks : List ℕ) (i g r : ℕ) (top : g ≡ largest ks) (ranked : r ≡ rank ks g) where
+  ranks : rank ks (largest ks) ≡ r
+  ranks = sym (ranked ∙ ap (rank ks) top)
+
+  pub unused_rank : (r ≡ g → ⊥) → false ≡ is_cornered ks i
+  unused_rank d = sym (ap (λ (b : Bool). b && leb i (largest ks)) (ne_eqb _ _ (λ q. d (sym ranks ∙ q ∙ sym top))))
+
+  pub used_ranks : r ≡ g → leb i g ≡ is_cornered ks i
+  used_ranks q = ap (leb i) top ∙ sym (ap (λ (b : Bool). b && leb i (largest ks)) (eq-eqb _ _ (ranks ∙ q ∙ top)))

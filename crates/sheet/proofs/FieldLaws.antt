@@ -12,6 +12,10 @@ use Rattle.sheet.specs.declared.fields.Field.TheVariants.{Lower, Upper, Unused}
 
 -- ---- a number within bounds
 
+-- docs/PORT.md names this; no proof cites it
+pub not_too_low : (v low high : ℕ) → low ≤ v → leb v high ≡ is_within v low high
+not_too_low v low high h = simp (le-leb _ _ h)
+
 pub bounds : (v low high : ℕ) → is_within v low high ≡ true → (low ≤ v) × (v ≤ high)
 bounds v low high = by (leb low v) refl
   where

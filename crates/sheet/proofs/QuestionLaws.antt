@@ -1,11 +1,11 @@
 -- Questions asked in a loop: of each number below n, or of each record in turn.
 use mathlib.Core.Path.{◌≡◌, refl, sym, ap, ap₂, subst, ◌∙◌}
-use mathlib.Core.Bool.{Bool, true, false, ◌&&◌}
+use mathlib.Core.Bool.{Bool, true, false, not, ◌&&◌}
 use Prim.Native.Nat.{ℕ, zero, suc, ◌+◌, ◌≤◌, ◌<◌}
 use native.Mathlib.Numerals.{add-one}
 use native.Mathlib.Decide.{ℕ_discrete}
 use native.Mathlib.Omega.{arith}
-use borrow.Author.Tests.{eq-eqb, ne_eqb}
+use borrow.Author.Tests.{eq-eqb, ne_eqb, not-true}
 use Rattle.refusals.specs.Numbers.{number_of}
 use Rattle.refusals.specs.declared.Refusal.{Refusal}
 use Rattle.refusals.proofs.Laws.{never_0}
@@ -90,3 +90,8 @@ stops r a b h = h ∙ sym (or_first a b (λ z. never_0 r (h ∙ z)))
 
 pub goes_on : (x a b : ℕ) → 0 ≡ a → x ≡ b → x ≡ or_else a b
 goes_on x a b z h = h ∙ sym (or_zero a b (sym z))
+
+-- ---- a test that a function answered: docs/PORT.md names this; no proof cites it
+
+pub denied : (r t : Bool) → r ≡ t → not r ≡ true → t ≡ false
+denied r t p h = sym p ∙ not-true r h

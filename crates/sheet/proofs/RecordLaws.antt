@@ -10,10 +10,15 @@ use native.Mathlib.Omega.{arith}
 use borrow.Author.Tests.{lt-ltb, le-ltb}
 use Rattle.sheet.specs.Bytes.{byte_at, word_at}
 use Rattle.sheet.specs.Maps.{stands}
-use Rattle.sheet.specs.Records.{map_of, head_bytes, field_place, value_at, field_at, record_length, record_at}
+use Rattle.sheet.specs.Records.{map_bytes, map_of, head_bytes, field_place, value_at, field_at, record_length, record_at}
 use Rattle.sheet.specs.declared.fields.Kind.{Kind}
 use Rattle.sheet.specs.declared.fields.Kind.TheVariants.{LocationRecord, EdgeRecord}
 use Rattle.sheet.proofs.MapLaws.{place_le}
+
+-- docs/PORT.md names this; no proof cites it
+pub map-le : (kind : Kind) → map_bytes kind ≤ 2
+map-le LocationRecord = omega arith
+map-le EdgeRecord = omega arith
 
 pub head_le : (kind : Kind) → head_bytes kind ≤ 4
 head_le LocationRecord = omega arith

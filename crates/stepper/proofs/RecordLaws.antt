@@ -1,6 +1,6 @@
 -- A step by records: its three cases, and that it is the sheet's own step where the records are the sheet's.
 use mathlib.Core.Path.{◌≡◌, refl, sym, ap, ap₂, ◌∙◌}
-use mathlib.Core.Bool.{Bool, true, false, cond, ◌&&◌}
+use mathlib.Core.Bool.{Bool, true, false, cond, ◌&&◌, not}
 use mathlib.Core.Option.{Option, none, some}
 use Prim.Native.Nat.{ℕ, ◌≤◌, ◌<◌}
 use native.Mathlib.Omega.{arith}
@@ -53,6 +53,15 @@ module _ (number code edition clocks edges : ℕ) (edge : Edge) (location : Loca
   pub no_code : 31 < code → (code ≡ 32 → ⊥) → (code ≡ 33 → ⊥) → Is (refused_step 16)
   unfolding step_by_records step_by step
   no_code h m n = sym (simp (lt-leb code 31 h, ne_eqb code 32 m, ne_eqb code 33 n))
+
+-- ---- an edge of another location: docs/PORT.md names these; no proof cites them
+module _ (number edition code source : ℕ) where
+  pub told_elsewhere : (l : ℕ) → code < 32 → l ≡ location_told number edition → not (eqb source l) ≡ leaves_elsewhere number edition code source
+  told_elsewhere l h e = ap (λ (l : ℕ). not (eqb source l)) e
+      ∙ sym (ap (λ (b : Bool). b && not (eqb source (location_told number edition))) (le-leb code 31 (omega arith)))
+
+  pub delays_stay : 31 < code → false ≡ leaves_elsewhere number edition code source
+  delays_stay h = sym (ap (λ (b : Bool). b && not (eqb source (location_told number edition))) (lt-leb code 31 h))
 
 -- ---- the location that is needed
 pub needed_by_edge : (number edition code target : ℕ) → code ≤ 31 → location_needed number edition code target ≡ target

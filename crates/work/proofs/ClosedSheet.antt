@@ -2,7 +2,7 @@
 use mathlib.Core.Path.{◌≡◌, refl, sym, ap, ap₂, ◌∙◌, subst}
 use mathlib.Core.Bool.{Bool, ◌&&◌, not}
 use mathlib.Core.List.{List}
-use Prim.Native.Nat.{ℕ, ◌<◌}
+use Prim.Native.Nat.{ℕ, ◌≤◌, ◌<◌}
 use native.Mathlib.Omega.{arith}
 use borrow.Author.Tests.{eqb-true}
 use lib.Dec.{eqb}
@@ -35,6 +35,10 @@ guard_closed u = by_bool (eqb u 255)
 module _ (s : Sheet) (fit : CountsInRange s.edition s.locations s.clocks s.edges) where
   clocks_are : few_clocks s.edition s.clocks ≡ min s.clocks 4
   clocks_are = omega (arith, fit.clocks_in, edition_clocks s.edition)
+
+  -- docs/PORT.md names this; no proof cites it
+  pub few_clocks_lem : s.clocks ≤ 4
+  few_clocks_lem = omega (arith, fit.clocks_in, edition_clocks s.edition)
 
   pub bounds_are : {n k : ℕ} → length s.location ≡ 12 → n ≡ s.locations → k ≡ s.clocks
       → bounds_closed (decoded_meaning s) ≡ bounds_odd (take n s.location) k
