@@ -1,6 +1,5 @@
 -- What a call of `explore` needs.
 use Rattle.std.specs.Prelude.{◌≡◌, ℕ, ◌≤◌}
-use Rattle.std.specs.declared.option.Option.TheVariants.{None}
 use Rattle.sheet.specs.Fields.{edition_at}
 use Rattle.sheet.specs.declared.Sheet.{Sheet}
 use Rattle.explore.specs.Buffers.{GraphBuffers, HasRoom}
@@ -12,6 +11,6 @@ pub record CountsInRange (edition locations clocks edges : ℕ) : Type 0 where
   pub edges_in : edges ≤ 32
 
 pub record Explorable (s : Sheet) (b : GraphBuffers) : Type 0 where
-  pub not_refused : s.refusal ≡ None
+  pub not_refused : s.refusal ≡ 0
   pub counts : CountsInRange s.edition s.locations s.clocks s.edges
   pub room : HasRoom b

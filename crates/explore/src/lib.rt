@@ -46,7 +46,7 @@ pub fn explore(sheet: Sheet, nodes: &mut NodeLists, arcs: &mut ArcLists) -> Resu
     ensures same_arcs { SameArcLists arcs.old arcs.new }
     ensures answered { ExploreAnswered sheet (buffers_of nodes.old arcs.old) (buffers_of nodes.new arcs.new) result }
 {
-    if sheet.refusal.is_some() {
+    if 0 < sheet.refusal {
         return Err(Unexplored::Malformed);
     }
     if !counts_in_range(&sheet) || !nodes.has_room() || !arcs.has_room() {

@@ -2,8 +2,8 @@
 use mathlib.Core.Path.{◌≡◌, refl, sym, ap, ◌∙◌}
 use mathlib.Core.Bool.{Bool, true, false, not, ◌&&◌, ◌||◌}
 use mathlib.Core.List.{List, [], ◌∷◌}
-use Prim.Native.Nat.{ℕ, zero, suc, ◌+◌}
-use borrow.Author.Tests.{eqb-true}
+use Prim.Native.Nat.{ℕ, zero, suc, ◌+◌, ◌≤◌}
+use borrow.Author.Tests.{eqb-true, leb-true}
 use lib.Dec.{leb, ltb, eqb}
 use lib.ListN.{length}
 use Rattle.automaton.specs.Tests.{occurs, every}
@@ -94,6 +94,11 @@ distinct_number e s from = by (each e (is_new s from))
 pub check_number : (s : List ℕ) → occurs (check_of s) check_numbers ≡ true
 unfolding every
 check_number s = check_passes (λ r. occurs r check_numbers) refl s (distinct_number (edges_in s) s (location_at s (locations_in s)))
+
+-- all of them are numbers of refusals
+pub check_small : (s : List ℕ) → check_of s ≤ 18
+unfolding every
+check_small s = leb-true _ _ (passes (λ r. leb r 18) check_numbers refl (check_of s) (check_number s))
 
 -- and 17 only where question 17 does
 pub asked_17 : (s : List ℕ) → check_of s ≡ 17 → distinct_refusal (edges_in s) s (location_at s (locations_in s)) ≡ 17

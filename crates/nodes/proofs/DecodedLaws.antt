@@ -7,24 +7,21 @@ use mathlib.Core.Option.{none, map}
 use Prim.Native.Nat.{ℕ, ◌+◌, ◌/◌, ◌^◌, ◌≤◌, ◌<◌}
 use native.Mathlib.Nat.{mod-lt}
 use native.Mathlib.Omega.{arith}
-use borrow.Author.Tests.{eqb-true, eq-eqb, leb-true, lt-ltb, lt-leb}
+use borrow.Author.Tests.{eqb-true, eq-eqb, lt-ltb, lt-leb}
 use lib.Dec.{leb, ltb, eqb, lit<}
 use lib.ListN.{length, get_or}
 use Rattle.integers.proofs.Lists.{any_default}
-use Rattle.automaton.specs.Tests.{every}
 use Rattle.automaton.specs.Automaton.{in_bounds, in_guards}
 use Rattle.automaton.specs.Ranks.{largest}
 use Rattle.automaton.specs.Nodes.{Node, uses_each_rank, inside, is_node}
 use Rattle.automaton.specs.Steps.{edge_step, unit_step, move_step, step}
 use Rattle.automaton.proofs.Codes.{step_edge}
 use Rattle.automaton.proofs.Tests.{by_bool}
-use Rattle.refusals.specs.Numbers.{number_in}
-use Rattle.refusals.proofs.Laws.{refusal_back}
 use Rattle.sheet.specs.Bytes.{byte_at}
 use Rattle.sheet.specs.Maps.{stands}
 use Rattle.sheet.specs.Fields.{bound_bit, lower_bit, upper_bit}
 use Rattle.sheet.specs.Records.{field_at, record_at, edition_of, location_at, edge_at, locations_in, clocks_in, edges_in}
-use Rattle.sheet.specs.Questions.{check_of, check_numbers}
+use Rattle.sheet.specs.Questions.{check_of}
 use Rattle.sheet.specs.Decoded.{filled, clock_bytes, location_of, edge_of, blank_location, blank_edge, locations_of, edges_of, decoded_sheet, refused_sheet, read_of}
 use Rattle.sheet.specs.declared.fields.Kind.{Kind}
 use Rattle.sheet.specs.declared.fields.Kind.TheVariants.{LocationRecord, EdgeRecord}
@@ -40,7 +37,6 @@ use Rattle.nodes.specs.Decoded.{few_clocks, layout_in, guard_of, bound_in, lower
 use Rattle.nodes.proofs.Carried.{named}
 use Rattle.nodes.proofs.AgreeLaws.{Agree}
 use Rattle.nodes.proofs.CheckedLaws.{guard_value}
-use Rattle.nodes.proofs.CheckNumberLaws.{passes, check_number}
 
 pub clock_byte : (kind : Kind) (s : List ℕ) (at b d j : ℕ) → j < (edition_of s).clocks → Option.get_or (field_at kind s at (b + j)) d ≡ get_or (clock_bytes kind s at b d) j 0
 unfolding clock_bytes
@@ -51,12 +47,11 @@ clock_byte kind s at b d j h =
     ∙ any_default (filled f d 4 (edition_of s).clocks) j d 0 (omega (arith, few, filled_length f d 4 (edition_of s).clocks))
 
 -- the decoded sheet carries the refusal of the check
-pub read_refusal : (bytes : List ℕ) → number_in (read_of bytes).refusal ≡ check_of bytes
-unfolding read_of every
+pub read_refusal : (bytes : List ℕ) → (read_of bytes).refusal ≡ check_of bytes
+unfolding read_of
 read_refusal bytes = by_bool (eqb (check_of bytes) 0)
-    (λ t. ap (λ (b : Bool). number_in (cond b (decoded_sheet bytes) (refused_sheet (check_of bytes))).refusal) t ∙ sym (eqb-true (check_of bytes) 0 t))
-    (λ f. ap (λ (b : Bool). number_in (cond b (decoded_sheet bytes) (refused_sheet (check_of bytes))).refusal) f
-    ∙ refusal_back (check_of bytes) (leb-true _ _ (passes (λ r. leb r 18) check_numbers refl (check_of bytes) (check_number bytes))))
+    (λ t. ap (λ (b : Bool). (cond b (decoded_sheet bytes) (refused_sheet (check_of bytes))).refusal) t ∙ sym (eqb-true (check_of bytes) 0 t))
+    (λ f. ap (λ (b : Bool). (cond b (decoded_sheet bytes) (refused_sheet (check_of bytes))).refusal) f)
 
 pub read_passed : (s : List ℕ) → check_of s ≡ 0 → read_of s ≡ decoded_sheet s
 unfolding read_of

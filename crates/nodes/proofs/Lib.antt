@@ -7,6 +7,7 @@ pub mod CheckedLaws
 pub mod CheckNumberLaws
 pub mod AgreeLaws
 pub mod DecodedLaws
+pub mod RefusalLaws
 pub mod RecordBytes
 pub mod SameEdgeLaws
 pub mod DistinctLaws

@@ -29,8 +29,7 @@ pub fn plan(
         return Err(Refusal::ShortBuffer);
     }
     let read = reader::read(sheet);
-    let refusal = read.refusal;
-    if let Some(refused) = refusal {
+    if let Some(refused) = Refusal::numbered(read.refusal) {
         return Err(refused);
     }
     let answer = sheets::plan_read(read, nodes, potentials, steps);

@@ -106,7 +106,7 @@ pub(crate) fn refused(refusal: Refusal) -> Sheet
     ensures { result ≡ refused_sheet (number_of refusal) }
 {
     Sheet {
-        refusal: Some(refusal),
+        refusal: refusal.number(),
         edition: 0,
         locations: 0,
         clocks: 0,
@@ -126,7 +126,7 @@ pub(crate) fn decoded(sheet: &[u8]) -> Sheet
     let (location, from) = read_locations(sheet, usize::from(locations));
     let edge = read_edges(sheet, from, usize::from(edges));
     Sheet {
-        refusal: None,
+        refusal: 0,
         edition: crate::bytes::byte(sheet, 0),
         locations,
         clocks: crate::bytes::byte(sheet, 2),

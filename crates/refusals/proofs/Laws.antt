@@ -59,6 +59,21 @@ unfolding refusal_at
 refusal_back zero h = refl
 refusal_back (suc n) h = number_at 1 refusals n (search rules depth 30) (omega arith) ∙ omega arith
 
+-- past the end of a list there is none
+nothing_at : (l : List Refusal) (n : ℕ) → length l ≤ n → slice_get l n ≡ None
+nothing_at [] n h = refl
+nothing_at (r ∷ rest) zero h = absurd (omega (arith, h))
+nothing_at (r ∷ rest) (suc n) h = nothing_at rest n (omega (arith, h))
+
+pub none_at_0 : refusal_at 0 ≡ None
+unfolding refusal_at
+none_at_0 = refl
+
+pub none_above : (n : ℕ) → 18 < n → refusal_at n ≡ None
+unfolding refusal_at
+none_above zero h = refl
+none_above (suc n) h = nothing_at refusals n (omega (arith, h))
+
 -- no refusal has the number of none
 pub never_0 : (r : Refusal) → number_of r ≡ 0 → ⊥
 unfolding refusal_at

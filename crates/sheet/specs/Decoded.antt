@@ -1,8 +1,6 @@
 -- The decoded sheet.
 use Rattle.std.specs.Prelude.{cond, List, [], ◌∷◌, ℕ, zero, suc, ◌+◌, eqb, pos, replicate, set}
 use Rattle.std.proofs.Math.Option.{get_or}
-use Rattle.std.specs.declared.option.Option.TheVariants.{None}
-use Rattle.refusals.specs.Numbers.{refusal_at}
 use Rattle.sheet.specs.Bytes.{byte_at, signed_of}
 use Rattle.sheet.specs.Fields.{bound_bit, lower_bit, upper_bit}
 use Rattle.sheet.specs.Records.{field_at, record_at, edition_of, location_at, locations_in, clocks_in, edges_in}
@@ -57,7 +55,7 @@ edges_of s from count = filled (λ e. edge_of s (record_at EdgeRecord s from e))
 
 abbrev pub decoded_sheet : List ℕ → Sheet
 decoded_sheet s = record {
-  refusal = None;
+  refusal = 0;
   edition = byte_at s 0;
   locations = locations_in s;
   clocks = clocks_in s;
@@ -69,7 +67,7 @@ decoded_sheet s = record {
 -- "All numbers besides the refusal are 0."
 abbrev pub refused_sheet : ℕ → Sheet
 refused_sheet r = record {
-  refusal = refusal_at r;
+  refusal = r;
   edition = 0;
   locations = 0;
   clocks = 0;

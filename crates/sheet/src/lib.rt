@@ -4,8 +4,6 @@
 pub mod fields;
 pub mod keys;
 
-use refusals::Refusal;
-
 // What a location record holds; absent prices are 0, and so are the bounds of clocks that the sheet does not have.
 #[derive(Clone, Copy, Default)]
 pub struct Location {
@@ -27,11 +25,11 @@ pub struct Edge {
     pub reset: u8,
 }
 
-// A decoded sheet: the refusal, or the edition, the counts and the records, blank ones after them.
+// A decoded sheet: the number of its refusal, and where that is 0 the edition, the counts and the records, blank ones after them.
 #[derive(Clone, Copy)]
 pub struct Sheet {
-    // Beside the records, and not a Result: `explore` promises what it answers of a refused sheet (`Explorable.not_refused`).
-    pub refusal: Option<Refusal>,
+    // Beside the records, and not a Result: `explore` promises what it answers of a refused sheet (`Explorable.not_refused`), whatever its number.
+    pub refusal: u8,
     // Its byte and no enum: every byte has an edition (`edition_at`), and whoever is handed one promises an answer for each.
     pub edition: u8,
     pub locations: u8,

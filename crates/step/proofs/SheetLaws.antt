@@ -6,7 +6,6 @@ use Prim.Native.Nat.{ℕ, ◌≤◌, ◌<◌}
 use borrow.Author.Tests.{eqb-true, eq-eqb, ne_eqb, lt-ltb, le-ltb}
 use lib.Dec.{eqb}
 use Rattle.automaton.proofs.Tests.{by_bool}
-use Rattle.refusals.specs.Numbers.{number_in}
 use Rattle.sheet.specs.Questions.{check_of}
 use Rattle.sheet.specs.Decoded.{blank_edge, read_of}
 use Rattle.sheet.specs.declared.Location.{Location}
@@ -44,15 +43,15 @@ module _ (s : Sheet) (x : ℕ) where
   -- ---- a whole step
 
   module _ (code : ℕ) where
-    pub step_refused : (number_in s.refusal ≡ 0 → ⊥) → refused_step (number_in s.refusal) ≡ step_in s x code
+    pub step_refused : (s.refusal ≡ 0 → ⊥) → refused_step s.refusal ≡ step_in s x code
     unfolding step_in
     step_refused n = sym (simp (ne_eqb _ _ n))
 
-    pub step_nowhere : number_in s.refusal ≡ 0 → is_number y (decoded_meaning s) x ≡ false → refused_step 15 ≡ step_in s x code
+    pub step_nowhere : s.refusal ≡ 0 → is_number y (decoded_meaning s) x ≡ false → refused_step 15 ≡ step_in s x code
     unfolding step_in answer_at
     step_nowhere z h = sym (simp (eq-eqb _ _ z, h))
 
-    pub step_answered : number_in s.refusal ≡ 0 → is_number y (decoded_meaning s) x ≡ true
+    pub step_answered : s.refusal ≡ 0 → is_number y (decoded_meaning s) x ≡ true
         → answered code (step_by y (decoded_meaning s) x code) ≡ step_in s x code
     unfolding step_in answer_at
     step_answered z h = sym (simp (eq-eqb _ _ z, h))

@@ -6,7 +6,7 @@ use Rattle.std.specs.declared.result.Result.TheVariants.{Ok, Err}
 use Rattle.automaton.specs.Tests.{only}
 use Rattle.automaton.specs.Automaton.{Automaton}
 use Rattle.automaton.specs.Priced.{Priced}
-use Rattle.refusals.specs.Numbers.{number_of, number_in}
+use Rattle.refusals.specs.Numbers.{number_of}
 use Rattle.refusals.specs.declared.Refusal.{Refusal}
 use Rattle.sheet.specs.Questions.{check_of}
 use Rattle.sheet.specs.declared.Sheet.{Sheet}
@@ -31,7 +31,7 @@ step_of s x code = cond (eqb (check_of s) 0) (answer_at (layout_of s) (meaning s
 
 -- the same of a decoded sheet
 unfoldable pub step_in : Sheet → ℕ → ℕ → Stepped
-step_in s x code = cond (eqb (number_in s.refusal) 0) (answer_at (layout_in s) (decoded_meaning s) x code) (refused_step (number_in s.refusal))
+step_in s x code = cond (eqb s.refusal 0) (answer_at (layout_in s) (decoded_meaning s) x code) (refused_step s.refusal)
 
 -- a single step as walks are made of: where it leads, or nothing where it is refused
 abbrev pub asked : List ℕ → ℕ → ℕ → Option (Priced ℕ)

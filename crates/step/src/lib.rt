@@ -1,7 +1,7 @@
 // One step of a sheet.
 #![tactic(auto)]
 
-ghost use Rattle.std.specs.Prelude.{◌≡◌, get_or};
+ghost use Rattle.std.specs.Prelude.{◌≡◌, ◌≤◌, get_or};
 ghost use Rattle.nodes.specs.Numbers.{is_number, step_by};
 ghost use Rattle.nodes.specs.Decoded.{decoded_meaning, layout_in};
 ghost use Rattle.sheet.specs.Decoded.{blank_location};
@@ -54,10 +54,10 @@ fn step_from(sheet: Sheet, number: u64, code: u16) -> Result<Step, Refusal>
 
 // One step of a decoded sheet: its refusal, then questions 15 and 16.
 fn step_in(sheet: Sheet, number: u64, code: u16) -> Result<Step, Refusal>
+    requires { sheet.refusal ≤ 18 }
     ensures { step_answer result ≡ step_in sheet number code }
 {
-    let refusal = sheet.refusal;
-    if let Some(refused) = refusal {
+    if let Some(refused) = Refusal::numbered(sheet.refusal) {
         return Err(refused);
     }
     if !is_number_of(sheet, number) {

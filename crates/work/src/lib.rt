@@ -56,7 +56,7 @@ pub fn work(sheet: &[u8], waits: &mut [u16], edges: &mut [u16]) -> Result<Length
         return Err(Refusal::ShortBuffer);
     }
     let read = reader::read(sheet);
-    if let Some(refusal) = read.refusal {
+    if let Some(refusal) = Refusal::numbered(read.refusal) {
         return Err(refusal);
     }
     buffers::clear(waits, 0, 0);

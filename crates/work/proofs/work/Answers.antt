@@ -1,11 +1,10 @@
 -- Question 1, the check, and then what follows in cleared buffers.
 use mathlib.Core.Path.{◌≡◌, sym, ap, ◌∙◌}
 use native.Mathlib.Omega.{arith}
-use Rattle.refusals.specs.Numbers.{number_of, number_in}
+use Rattle.refusals.specs.Numbers.{number_of}
 use Rattle.refusals.proofs.Laws.{never_0}
 use Rattle.sheet.specs.Questions.{check_of}
-use Rattle.sheet.specs.declared.Sheet.{Sheet}
-use Rattle.nodes.proofs.DecodedLaws.{read_refusal}
+use Rattle.nodes.proofs.RefusalLaws.{refusal_read}
 use Rattle.buffers.proofs.ClearedLaws.{cleared_whole}
 use Rattle.work.specs.Work.{refused_work, lent_pairs, RoomForPairs, zero_pairs}
 use Rattle.work.proofs.Exits.{faulty_sheet}
@@ -14,12 +13,12 @@ use Rattle.work.proofs.work.Goals as goal
 pub returns-in-Some : goal.returns-in-Some
 returns-in-Some c =
     let is : check_of c.args.sheet.now ≡ number_of c.in-Some.refusal =
-    sym (read_refusal c.args.sheet.now) ∙ ap (λ (x : Sheet). number_in x.refusal) (sym c.read-read.ensures) ∙ ap number_in c.in-Some.is in
+    refusal_read c.args.sheet.now c.read-read.ensures c.numbered.ensures c.in-Some.is in
     faulty_sheet (ap refused_work (sym is)) (record { waits = omega arith; edges = omega arith }) (λ z. never_0 _ (sym is ∙ z))
 
 pub plan_pairs-requires-clause-passed : goal.plan_pairs-requires-clause-passed
 plan_pairs-requires-clause-passed c =
-    sym (read_refusal c.args.sheet.now) ∙ ap (λ (x : Sheet). number_in x.refusal) (sym c.read-read.ensures) ∙ ap number_in c.in_default.is
+    refusal_read c.args.sheet.now c.read-read.ensures c.numbered.ensures c.in_default.is
 
 pub returns : goal.returns
 returns c =

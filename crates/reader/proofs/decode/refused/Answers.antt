@@ -1,13 +1,11 @@
 -- The refusal of its number, and blank records.
-use mathlib.Core.Path.{sym}
 use lib.ListN.{replicate}
-use Rattle.refusals.proofs.Laws.{at_number}
 use Rattle.sheet.proofs.BlankLaws.{blank_location_is, blank_edge_is}
 use Rattle.reader.proofs.decode.refused.Goals as goal
 
 pub returns : goal.returns
 returns c = λ i. record {
-  refusal = sym (at_number c.args.refusal) i;
+  refusal = c.number.ensures i;
   edition = 0;
   locations = 0;
   clocks = 0;
