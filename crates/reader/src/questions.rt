@@ -14,6 +14,8 @@ use sheet::fields::Kind;
 
 impl<'a> Record<'a> {
     // Questions 5, 6 and 5 again of a record: the map, its bits, and the bytes that it calls for.
+    // Inlined for each kind, so that the bits' loop is compiled for its fields: shared, it takes a tenth more of the check.
+    #[inline(always)]
     fn check_map(&self, counts: Counts) -> Result<(), Refusal>
         ensures { refusal_of result ≡ map_refusal self.now.kind counts.clocks self.now.sheet.now self.now.at }
     {
@@ -80,6 +82,7 @@ impl<'a> Record<'a> {
     }
 
     // Questions 5 to 9 of a record: 7 is asked of a location, and 9 of an edge.
+    #[inline(always)]
     fn check(&self, counts: Counts) -> Result<(), Refusal>
         ensures { refusal_of result ≡ record_refusal self.now.kind counts.clocks counts.locations self.now.sheet.now self.now.at }
     {
@@ -155,6 +158,8 @@ fn check_start(sheet: &[u8], counts: Counts) -> Result<(), Refusal>
 }
 
 // Questions 5 to 10, 17 and 11: each record in turn, then what follows the last.
+// By itself, so that a header which is refused pays for none of its registers and keys.
+#[inline(never)]
 fn check_records(sheet: &[u8], counts: Counts) -> Result<(), Refusal>
     ensures { refusal_of result ≡ records_refusal counts.clocks counts.locations counts.edges sheet.now }
 {
