@@ -19,12 +19,7 @@ use Rattle.ratio.specs.declared.Ratio.{Ratio}
 use Rattle.ratio.specs.declared.NoRatio.{NoRatio}
 use Rattle.ratio.proofs.RatioAnswerLaws.{room, numbered_13, numbered_14}
 use Rattle.contract.specs.Plan.{Answer, refused_plan, Buffers, zeros, SameLengths, Passed, Judged, Planned}
-use Rattle.planner.specs.ContractTerms.{lent_buffers, answer_of}
-use Rattle.planner.specs.declared.output.Plan.{Plan}
-use Rattle.refusals.proofs.Laws.{never_0}
-use Rattle.refusals.specs.declared.Refusal.{Refusal}
-use Rattle.std.specs.Result.{is_err}
-use mathlib.Core.Bool.{true, false}
+use Rattle.planner.specs.ContractTerms.{lent_buffers}
 use Rattle.planner.specs.PrivatePromises.{Handed, Cyclic, PlannedButForClearing}
 
 -- ---- what is settled
@@ -45,14 +40,10 @@ module _ {bytes : List ℕ} {before after : Buffers} {a : Answer} where
       number : a.refusal ≡ r
       number = ap (λ (x : Answer). x.refusal) e
 
--- a plan has no number, a refusal has one
-pub planned_0 : (A : Result Plan Refusal) → is_err A ≡ false → (answer_of A).refusal ≡ 0
-planned_0 (Ok a) e = refl
-planned_0 (Err r) e = absurd (let z : true ≡ false = e in cc)
-
-pub refused_some : (A : Result Plan Refusal) → is_err A ≡ true → 0 < (answer_of A).refusal
-refused_some (Ok a) e = absurd (let z : false ≡ true = e in cc)
-refused_some (Err r) e = omega (arith, never_0 r)
+-- a refusal with nothing written
+pub settled_kept : {bytes : List ℕ} (before : Buffers) {r : ℕ} {a : Answer} → a ≡ refused_plan r → Planned bytes before before (refused_plan r)
+    → PlannedButForClearing bytes before before a
+settled_kept {bytes} before e w = settled_planned (subst (Planned bytes before before) (sym e) w)
 
 -- the buffers, once they are cleared
 pub all_zero : {before : Buffers} {N : List ℕ} {P : List ℤ} {S N' : List ℕ} {P' : List ℤ} {S' : List ℕ} → SameLengths (lent_buffers N P S) before
