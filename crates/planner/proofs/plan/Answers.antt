@@ -1,25 +1,26 @@
 -- The questions, and the clearing on 12 to 14.
 use mathlib.Core.Path.{◌∙◌}
-use Prim.Native.Nat.{◌≤◌}
+use mathlib.Core.Logic.{◌≢◌}
+use Prim.Native.Nat.{◌≤◌, ◌<◌}
 use native.Mathlib.Omega.{arith}
 use Rattle.contract.specs.Plan.{SameLengths}
-use Rattle.contract.proofs.Causes.{explored_numbers, numbers_explored}
+use Rattle.contract.proofs.Causes.{explored_numbers}
 use Rattle.planner.specs.ContractTerms.{lent_buffers, answer_of}
-use Rattle.planner.proofs.GraphLaws.{all_zero, refused_planned}
+use Rattle.planner.proofs.GraphLaws.{past_check, all_zero, refused_planned}
 use Rattle.planner.proofs.plan.Goals as goal
 
 pub returns-then-matches : goal.returns-then-matches
 returns-then-matches c =
-    let low : 12 ≤ (answer_of c.ask-answer.result).refusal = grind arith in
-    let high : (answer_of c.ask-answer.result).refusal ≤ 14 = grind arith in
+    let high : 11 < (answer_of c.ask-answer.result).refusal = grind arith in
+    let other : (answer_of c.ask-answer.result).refusal ≢ 17 = λ seventeen. grind arith in
     let k = c.ask-answer.auto in
     let same : SameLengths (lent_buffers c.ask-answer.new.nodes c.ask-answer.new.potentials c.ask-answer.new.steps) (lent_buffers c.args.nodes.now c.args.potentials.now c.args.steps.now) =
     record { nodes = k.nodes; potentials = k.potentials; steps = k.steps } in
     let settled = c.ask-answer.ensures in
     let w = c.clear.ensures in
     let l = c.clear.auto in
-    refused_planned (settled.numbers (omega (arith, low))) settled.judged (numbers_explored low high settled.judged) (all_zero same w.nodes_cleared w.potentials_cleared w.steps_cleared)
-    (record { nodes = l.nodes ∙ k.nodes; potentials = l.potentials ∙ k.potentials; steps = l.steps ∙ k.steps }) (omega (arith, low))
+    refused_planned (settled.numbers (omega (arith, high))) settled.judged (past_check high other settled.judged) (all_zero same w.nodes_cleared w.potentials_cleared w.steps_cleared)
+    (record { nodes = l.nodes ∙ k.nodes; potentials = l.potentials ∙ k.potentials; steps = l.steps ∙ k.steps }) (omega (arith, high))
 
 pub returns-else-matches : goal.returns-else-matches
 returns-else-matches c =
