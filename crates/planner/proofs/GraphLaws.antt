@@ -1,8 +1,12 @@
 -- What `least_ratio` answered of the graph, and the ways out with a refusal.
 use mathlib.Core.Path.{◌≡◌, refl, sym, ap, ◌∙◌, subst}
+use mathlib.Core.Logic.{◌≢◌}
+use mathlib.Core.Bool.{◌||◌}
 use mathlib.Core.List.{List}
 use Prim.Native.Nat.{ℕ, ◌<◌}
 use native.Mathlib.Omega.{arith}
+use borrow.Author.Tests.{lt-leb, ne_eqb}
+use lib.Dec.{leb, eqb}
 use lib.IntN.{ℤ, pos}
 use lib.ListN.{length, take, replicate}
 use lib.Seq.{length-take-le, take-length}
@@ -18,13 +22,12 @@ use Rattle.ratio.specs.Answer.{RatioFound, RatioAnswered}
 use Rattle.ratio.specs.declared.Ratio.{Ratio}
 use Rattle.ratio.specs.declared.NoRatio.{NoRatio}
 use Rattle.ratio.proofs.RatioAnswerLaws.{room, numbered_13, numbered_14}
-use Rattle.contract.specs.Plan.{Answer, refused_plan, Buffers, zeros, SameLengths, Passed, Judged, Planned}
-use Rattle.planner.specs.ContractTerms.{lent_buffers, answer_of}
-use Rattle.planner.specs.declared.output.Plan.{Plan}
-use Rattle.refusals.proofs.Laws.{never_0}
-use Rattle.refusals.specs.declared.Refusal.{Refusal}
-use Rattle.std.specs.Result.{is_err}
-use mathlib.Core.Bool.{true, false}
+use Rattle.automaton.specs.Tests.{every}
+use Rattle.automaton.proofs.Tests.{clash}
+use Rattle.sheet.specs.Questions.{check_of, check_numbers}
+use Rattle.nodes.proofs.CheckNumberLaws.{check_number, passes}
+use Rattle.contract.specs.Plan.{Answer, refused_plan, Buffers, zeros, SameLengths, Passed, Judged, too_short, faulty, explored, Planned}
+use Rattle.planner.specs.ContractTerms.{lent_buffers}
 use Rattle.planner.specs.PrivatePromises.{Handed, Cyclic, PlannedButForClearing}
 
 -- ---- what is settled
@@ -45,14 +48,18 @@ module _ {bytes : List ℕ} {before after : Buffers} {a : Answer} where
       number : a.refusal ≡ r
       number = ap (λ (x : Answer). x.refusal) e
 
--- a plan has no number, a refusal has one
-pub planned_0 : (A : Result Plan Refusal) → is_err A ≡ false → (answer_of A).refusal ≡ 0
-planned_0 (Ok a) e = refl
-planned_0 (Err r) e = absurd (let z : true ≡ false = e in cc)
+-- a refusal with nothing written
+pub settled_kept : {bytes : List ℕ} (before : Buffers) {r : ℕ} {a : Answer} → a ≡ refused_plan r → Planned bytes before before (refused_plan r)
+    → PlannedButForClearing bytes before before a
+settled_kept {bytes} before e w = settled_planned (subst (Planned bytes before before) (sym e) w)
 
-pub refused_some : (A : Result Plan Refusal) → is_err A ≡ true → 0 < (answer_of A).refusal
-refused_some (Ok a) e = absurd (let z : false ≡ true = e in cc)
-refused_some (Err r) e = omega (arith, never_0 r)
+-- no refusal of a short buffer or of the check has this number
+pub past_check : {bytes : List ℕ} {b : Buffers} {r : ℕ} → 11 < r → r ≢ 17 → Judged bytes b r → Passed bytes b
+unfolding every
+past_check high other (too_short e h) = absurd (omega arith)
+past_check {bytes} high other (faulty e l c) = clash (passes (λ x. leb x 11 || eqb x 17) check_numbers refl (check_of bytes) (check_number bytes))
+    (simp (lt-leb (check_of bytes) 11 (omega arith), ne_eqb (check_of bytes) 17 (λ q. other (e ∙ q))))
+past_check high other (explored l c v) = (l, c)
 
 -- the buffers, once they are cleared
 pub all_zero : {before : Buffers} {N : List ℕ} {P : List ℤ} {S N' : List ℕ} {P' : List ℤ} {S' : List ℕ} → SameLengths (lent_buffers N P S) before

@@ -37,7 +37,8 @@ fn plan_pairs(
     let mut nodes = [0u64; 2048];
     let mut potentials = [0i64; 2048];
     let mut codes = [0u16; 2048];
-    let plan = planner::plan(sheet, &mut nodes, &mut potentials, &mut codes)?;
+    let answer = planner::plan(sheet, &mut nodes, &mut potentials, &mut codes);
+    let plan = answer?;
     if !closed::is_closed(read) {
         return Err(Refusal::Strict);
     }

@@ -10,8 +10,9 @@ use Rattle.nodes.specs.Meaning.{meaning}
 use Rattle.nodes.specs.Decoded.{decoded_meaning}
 use Rattle.explore.specs.Explorable.{CountsInRange}
 use Rattle.schedules.specs.Closed.{is_closed}
+use Rattle.contract.specs.Answers.{PlanAnswers}
 use Rattle.contract.specs.Plan.{Buffers, LongEnough}
-use Rattle.planner.specs.ContractTerms.{lent_buffers}
+use Rattle.planner.specs.ContractTerms.{lent_buffers, answer_of}
 use Rattle.work.proofs.ClosedSheet.{counts_in_range, read_closed}
 use Rattle.work.proofs.PlanRuns.{lasso_short, lasso_there}
 use Rattle.work.proofs.LassoSteps.{written_as}
@@ -31,32 +32,33 @@ is_closed-requires c =
 
 pub returns-then-not-is_closed : goal.returns-then-not-is_closed
 returns-then-not-is_closed c =
+    let accepts : (answer_of c.plan-answer.result).refusal ≡ 0 = grind arith in
     let told : is_closed (meaning c.args.sheet.now) ≡ c.is_closed.result =
     sym (read_closed c.args.sheet.now c.requires.passed) ∙ ap (λ (x : Sheet). is_closed (decoded_meaning x)) (sym c.requires.read_so) ∙ sym c.is_closed.ensures in
-    λ o. strict_somewhere o.is (o.room, c.requires.passed) refl (answers_all long c.in_ok-plan.ensures.judged) (told ∙ c.if-not-is_closed.true)
+    λ o. strict_somewhere o.is (o.room, c.requires.passed) refl (subst (PlanAnswers c.args.sheet.now) accepts (answers_all long c.plan-answer.ensures.judged)) (told ∙ c.if-not-is_closed.true)
 
 -- the lasso's place in the plan's steps
 pub slice_bounds-codes-end : goal.slice_bounds-codes-end
-slice_bounds-codes-end c = omega (arith, lasso_there {b = lent} {b' = lent_buffers c.plan.new.nodes c.plan.new.potentials c.plan.new.steps} c.in_ok-plan.ensures refl, c.from-s.ensures, c.from-m.ensures)
+slice_bounds-codes-end c = omega (arith, lasso_there {b = lent} {b' = lent_buffers c.plan-answer.new.nodes c.plan-answer.new.potentials c.plan-answer.new.steps} c.in_ok-plan.ensures refl, c.from-s.ensures, c.from-m.ensures)
 
 pub slice_bounds-split_at-end : goal.slice_bounds-split_at-end
-slice_bounds-split_at-end c = sym (length-take-le _ c.plan.new.steps (omega (arith, lasso_there {b = lent} {b' = lent_buffers c.plan.new.nodes c.plan.new.potentials c.plan.new.steps} c.in_ok-plan.ensures refl, c.from-s.ensures, c.from-m.ensures)))
+slice_bounds-split_at-end c = sym (length-take-le _ c.plan-answer.new.steps (omega (arith, lasso_there {b = lent} {b' = lent_buffers c.plan-answer.new.nodes c.plan-answer.new.potentials c.plan-answer.new.steps} c.in_ok-plan.ensures refl, c.from-s.ensures, c.from-m.ensures)))
 
 pub split_at-requires : goal.split_at-requires
 split_at-requires c =
-    let short : c.from-s.result + c.from-m.result ≤ length c.plan.new.steps = omega (arith, lasso_there {b = lent} {b' = lent_buffers c.plan.new.nodes c.plan.new.potentials c.plan.new.steps} c.in_ok-plan.ensures refl, c.from-s.ensures, c.from-m.ensures) in
-    omega (arith, length-take-le _ c.plan.new.steps short)
+    let short : c.from-s.result + c.from-m.result ≤ length c.plan-answer.new.steps = omega (arith, lasso_there {b = lent} {b' = lent_buffers c.plan-answer.new.nodes c.plan-answer.new.potentials c.plan-answer.new.steps} c.in_ok-plan.ensures refl, c.from-s.ensures, c.from-m.ensures) in
+    omega (arith, length-take-le _ c.plan-answer.new.steps short)
 
 pub write_lasso-requires-clause-few : goal.write_lasso-requires-clause-few
 write_lasso-requires-clause-few c =
     let parts = c.split_at.ensures in
-    let short : c.from-s.result + c.from-m.result ≤ length c.plan.new.steps = omega (arith, lasso_there {b = lent} {b' = lent_buffers c.plan.new.nodes c.plan.new.potentials c.plan.new.steps} c.in_ok-plan.ensures refl, c.from-s.ensures, c.from-m.ensures) in
+    let short : c.from-s.result + c.from-m.result ≤ length c.plan-answer.new.steps = omega (arith, lasso_there {b = lent} {b' = lent_buffers c.plan-answer.new.nodes c.plan-answer.new.potentials c.plan-answer.new.steps} c.in_ok-plan.ensures refl, c.from-s.ensures, c.from-m.ensures) in
     omega (
       arith,
-      lasso_short {b = lent} {b' = lent_buffers c.plan.new.nodes c.plan.new.potentials c.plan.new.steps} c.in_ok-plan.ensures refl,
+      lasso_short {b = lent} {b' = lent_buffers c.plan-answer.new.nodes c.plan-answer.new.potentials c.plan-answer.new.steps} c.in_ok-plan.ensures refl,
       parts.front_len,
       parts.back_len,
-      length-take-le _ c.plan.new.steps short,
+      length-take-le _ c.plan-answer.new.steps short,
       c.from-s.ensures,
       c.from-m.ensures,
     )
@@ -65,6 +67,6 @@ pub returns : goal.returns
 returns c =
     let told : is_closed (meaning c.args.sheet.now) ≡ c.is_closed.result =
     sym (read_closed c.args.sheet.now c.requires.passed) ∙ ap (λ (x : Sheet). is_closed (decoded_meaning x)) (sym c.requires.read_so) ∙ sym c.is_closed.ensures in
-    λ o. work_given o.is (o.room, c.requires.passed) {b = lent} {b' = lent_buffers c.plan.new.nodes c.plan.new.potentials c.plan.new.steps} long c.in_ok-plan.ensures refl (told ∙ c.if-not-is_closed.false)
-    (written_as (c.split_at.ensures.front ∙ take-take _ _ c.plan.new.steps (omega arith) ∙ ap (λ (s : ℕ). take s c.plan.new.steps) c.from-s.ensures)
-    (c.split_at.ensures.back ∙ ap₂ (λ (s m : ℕ). drop s (take (s + m) c.plan.new.steps)) c.from-s.ensures c.from-m.ensures) c.write_lasso.ensures)
+    λ o. work_given o.is (o.room, c.requires.passed) {b = lent} {b' = lent_buffers c.plan-answer.new.nodes c.plan-answer.new.potentials c.plan-answer.new.steps} long c.in_ok-plan.ensures refl (told ∙ c.if-not-is_closed.false)
+    (written_as (c.split_at.ensures.front ∙ take-take _ _ c.plan-answer.new.steps (omega arith) ∙ ap (λ (s : ℕ). take s c.plan-answer.new.steps) c.from-s.ensures)
+    (c.split_at.ensures.back ∙ ap₂ (λ (s m : ℕ). drop s (take (s + m) c.plan-answer.new.steps)) c.from-s.ensures c.from-m.ensures) c.write_lasso.ensures)

@@ -14,5 +14,5 @@ returns c =
     let a = c.args in
     let has : ℕ → Bool = λ b. eqb (b % 2) a.parity in
     all_from_yields_List has _ _ c.all.result c.all.ensures.ran
-    (YieldsList-from_take a.clocks (YieldsList-from_slice a.bytes cc) cc) (λ x b q k. search (rules, tests))
-    ∙ each_upto has a.bytes 0 a.clocks 4 (search rules)
+    (YieldsList-from_take _ (YieldsList-from_slice a.bytes cc) c.take.ensures.count) (λ x b q k. search (rules, tests))
+    ∙ each_upto has a.bytes 0 _ 4 (search rules)
