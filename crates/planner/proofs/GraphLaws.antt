@@ -1,7 +1,7 @@
 -- What `least_ratio` answered of the graph, and the ways out with a refusal.
 use mathlib.Core.Path.{◌≡◌, refl, sym, ap, ◌∙◌, subst}
 use mathlib.Core.Logic.{◌≢◌}
-use mathlib.Core.Bool.{◌||◌}
+use mathlib.Core.Bool.{true, false, ◌||◌}
 use mathlib.Core.List.{List}
 use Prim.Native.Nat.{ℕ, ◌<◌}
 use native.Mathlib.Omega.{arith}
@@ -14,6 +14,7 @@ use mir.Syntax.{w64}
 use mir.Val.{to_z, of_z}
 use mir.ValLaws.{to_z-of_z}
 use Rattle.std.specs.Prelude.{Result, Ok, Err}
+use Rattle.std.specs.Result.{is_err}
 use Rattle.integers.proofs.Machine.{small}
 use Rattle.walks.specs.Walk.{at}
 use Rattle.walks.specs.Cycles.{EarningArcs, NoneEarns, IdleGainArcs}
@@ -22,12 +23,15 @@ use Rattle.ratio.specs.Answer.{RatioFound, RatioAnswered}
 use Rattle.ratio.specs.declared.Ratio.{Ratio}
 use Rattle.ratio.specs.declared.NoRatio.{NoRatio}
 use Rattle.ratio.proofs.RatioAnswerLaws.{room, numbered_13, numbered_14}
+use Rattle.refusals.specs.declared.Refusal.{Refusal}
+use Rattle.refusals.proofs.Laws.{never_0}
 use Rattle.automaton.specs.Tests.{every}
 use Rattle.automaton.proofs.Tests.{clash}
 use Rattle.sheet.specs.Questions.{check_of, check_numbers}
 use Rattle.nodes.proofs.CheckNumberLaws.{check_number, passes}
 use Rattle.contract.specs.Plan.{Answer, refused_plan, Buffers, zeros, SameLengths, Passed, Judged, too_short, faulty, explored, Planned}
-use Rattle.planner.specs.ContractTerms.{lent_buffers}
+use Rattle.planner.specs.ContractTerms.{lent_buffers, answer_of}
+use Rattle.planner.specs.declared.output.Plan.{Plan}
 use Rattle.planner.specs.PrivatePromises.{Handed, Cyclic, PlannedButForClearing}
 
 -- ---- what is settled
@@ -60,6 +64,15 @@ past_check high other (too_short e h) = absurd (omega arith)
 past_check {bytes} high other (faulty e l c) = clash (passes (λ x. leb x 11 || eqb x 17) check_numbers refl (check_of bytes) (check_number bytes))
     (simp (lt-leb (check_of bytes) 11 (omega arith), ne_eqb (check_of bytes) 17 (λ q. other (e ∙ q))))
 past_check high other (explored l c v) = (l, c)
+
+-- a plan has no number, a refusal has one
+pub planned_0 : (A : Result Plan Refusal) → is_err A ≡ false → (answer_of A).refusal ≡ 0
+planned_0 (Ok a) e = refl
+planned_0 (Err r) e = absurd (let z : true ≡ false = e in cc)
+
+pub refused_some : (A : Result Plan Refusal) → is_err A ≡ true → 0 < (answer_of A).refusal
+refused_some (Ok a) e = absurd (let z : false ≡ true = e in cc)
+refused_some (Err r) e = omega (arith, never_0 r)
 
 -- the buffers, once they are cleared
 pub all_zero : {before : Buffers} {N : List ℕ} {P : List ℤ} {S N' : List ℕ} {P' : List ℤ} {S' : List ℕ} → SameLengths (lent_buffers N P S) before
