@@ -20,21 +20,23 @@ impl PairWriter<'_> {
         ensures written { PairsWritten (pairs_in self.old) (pairs_in self.new) self.old.count self.old.wait codes.now
             self.new.count self.new.wait }
     {
+        let mut wait = self.wait;
         for code in codes {
             match *code {
                 0..=31 => {
-                    self.waits[self.count] = self.wait;
+                    self.waits[self.count] = wait;
                     self.edges[self.count] = *code;
                     self.count += 1;
-                    self.wait = 0;
+                    wait = 0;
                 }
                 32 => {
-                    self.wait += 1;
+                    wait += 1;
                 }
                 33 => {}
                 // No step has another code.
                 _ => {}
             }
         }
+        self.wait = wait;
     }
 }

@@ -19,10 +19,10 @@ loop-code-preserved c =
     let i = c.loop-code.invariant in
     let next = at_place c.args.codes.now c.loop-code.code-index c.loop-code-test.true i.going in
     elim c.match-code.branch [
-      | in-32 w ↦ rw w.self-is (record { same = record { waits = i.same.waits; edges = i.same.edges }; going = unit_comes next (omega arith) })
-      | in-33 w ↦ rw w.self-is (record { same = i.same; going = move_comes next (omega arith) (λ q. omega arith) })
-      | in-0-to-31 w ↦ rw w.self-is (record { same = record { waits = i.same.waits; edges = i.same.edges }; going = edge_comes next (omega arith) })
-      | in_default+else-code-lt32 w ↦ rw w.self-is (record { same = i.same; going = move_comes next (omega arith) (λ q. omega arith) })
+      | in-32 w ↦ rw (w.self-is, w.wait-is) (record { same = i.same; going = unit_comes next (omega arith) })
+      | in-33 w ↦ rw (w.self-is, w.wait-is) (record { same = i.same; going = move_comes next (omega arith) (λ q. omega arith) })
+      | in-0-to-31 w ↦ rw (w.self-is, w.wait-is) (record { same = record { waits = i.same.waits; edges = i.same.edges }; going = edge_comes next (omega arith) })
+      | in_default+else-code-lt32 w ↦ rw (w.self-is, w.wait-is) (record { same = i.same; going = move_comes next (omega arith) (λ q. omega arith) })
     ]
 
 pub returns-clause-written : goal.returns-clause-written

@@ -7,5 +7,5 @@ use Rattle.work.proofs.pairs.PairWriter.write.Given as goal
 abbrev pub invariant-loop-code : goal.invariant-loop-code
 invariant-loop-code l = record {
   same : SamePairLists l.fn.self l.self;
-  going : Going (pairs_in l.fn.self) l.fn.self.count l.fn.self.wait l.codes (pairs_in l.self) l.self.count l.self.wait (drop l.code-index l.codes);
+  going : Going (pairs_in l.fn.self) l.fn.self.count l.fn.self.wait l.codes (pairs_in l.self) l.self.count l.wait (drop l.code-index l.codes);
 }
